@@ -1,0 +1,6 @@
+pub mod Say
+pub mod Bytes
+pub mod Fill
+pub mod Part
+pub mod First
+pub mod Table

@@ -1,0 +1,1 @@
+// The sum modulo 2 of numbers, bit by bit. Its laws stand in specs/; there is no code.

@@ -1,0 +1,1 @@
+//! An independent implementation, written from the documents, of what the proved crates compute.
