@@ -35,6 +35,16 @@ grow-part (suc n) m [] s l k = absurd (omega arith)
 grow-part (suc n) m (x ∷ d) [] l k = absurd (omega arith)
 grow-part (suc n) m (x ∷ d) (y ∷ s) l k = rw suc-add (ap (λ (t : List ℕ). y ∷ t) (grow-part n m d s (omega arith) (omega arith)))
 
+-- ---- what is not written yet is as it was
+
+pub grown-rest : (n k : ℕ) (d s : List ℕ) → n ≤ k → n ≤ length d → n ≤ length s → getD (grown d s n) k 0 ≡ getD d k 0
+grown-rest zero k d s h l m = refl
+grown-rest (suc n) k d [] h l m = absurd (not-suc-le-zero m)
+grown-rest (suc n) k [] (y ∷ s) h l m = absurd (not-suc-le-zero l)
+grown-rest (suc n) zero (x ∷ d) (y ∷ s) h l m = absurd (not-suc-le-zero h)
+grown-rest (suc n) (suc k) (x ∷ d) (y ∷ s) h l m =
+    grown-rest n k d s (le-of-suc-le-suc h) (le-of-suc-le-suc l) (le-of-suc-le-suc m)
+
 -- ---- the last turn is done
 
 pub grow-all : (d s : List ℕ) (n : ℕ) → length d ≡ n → length s ≡ n → grown d s n ≡ s
@@ -76,3 +86,6 @@ module _ {d s out : List ℕ} {n : ℕ} (f : Filling d s n out) where
   filling-all h =
       let e : n ≡ length s = omega (arith, f .upto) in
       f .is ∙ grow-all d s n (omega (arith, f .fits)) (sym e)
+
+  pub filling-rest : (k : ℕ) → n ≤ k → getD out k 0 ≡ getD d k 0
+  filling-rest k h = ap (λ (o : List ℕ). getD o k 0) (f .is) ∙ grown-rest n k d s h (omega (arith, f .fits, f .upto)) (f .upto)
