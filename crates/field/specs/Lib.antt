@@ -1,0 +1,5 @@
+pub mod Field
+pub mod Linear
+pub mod Exponents
+pub mod Powers
+pub mod Laws
