@@ -5,3 +5,4 @@ pub mod Sums
 pub mod Changes
 pub mod Distance
 pub mod NearestLaws
+pub mod FaultLaws
