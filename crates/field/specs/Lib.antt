@@ -3,3 +3,4 @@ pub mod Linear
 pub mod Exponents
 pub mod Powers
 pub mod Laws
+pub mod Inverse

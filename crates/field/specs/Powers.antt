@@ -10,7 +10,7 @@ use native.Mathlib.Omega.{arith}
 use lib.Bits.{bitXor}
 use lib.Dec.{eqb, ltb, eqb→eq, ltb→lt}
 use Rattle.outcome.specs.First.{lt-or-le}
-use Rattle.outcome.specs.Table.{allBelow, below}
+use Rattle.outcome.specs.Table.{below}
 use Rattle.field.specs.Field.{timesAlpha, power, mulBits, mul}
 use Rattle.field.specs.Linear.{timesAlpha-zero, mul-alpha}
 use Rattle.field.specs.Exponents.{order, exponent}
