@@ -1,0 +1,166 @@
+-- Nothing is left of a polynomial exactly where it is the divisor times some polynomial.
+-- Assumes nothing.
+use mathlib.Core.Path.{_≡_, refl, sym, ap, ap₂, _∙_}
+use mathlib.Core.List.{List, [], _∷_, _++_}
+use Prim.Native.Nat.{ℕ, zero, suc, _+_, _-_, _*_, _/_, _%_, _^_, _<_, _≤_}
+use native.Mathlib.Nat.{zero-lt-suc, mul-one, zero-mul, mul-assoc, pow-suc, div-add-mod', add-zero, zero-add}
+use native.Mathlib.Omega.{arith}
+use lib.Bits.{bitXor, differ, xor-zero-r, xor-comm, xor-step}
+use lib.ListN.{length, replicate, length-append, length-replicate}
+use Rattle.xor.specs.Laws.{xor-half, xor-odd, xor-assoc, xor-twice, xor-double, bit-lt}
+use Rattle.edc.specs.Bits.{number}
+use Rattle.edc.specs.Polynomial.{Coefficients, plus, scaled, product, divisor}
+use Rattle.edc.specs.Edc.{remainder}
+use Rattle.edc.specs.Coefficients.{coefs-append, coefs-zeros, coefs-scaled, coefs-product, coefs-divisor, length-divisor, length-plus, length-scaled}
+use Rattle.edc.specs.Numbers.{number-zeros, number-tail, number-plus, number-scaled, number-inj}
+use Rattle.edc.specs.Register.{feedback, step, steps}
+use Rattle.edc.specs.Division.{coefs-remainder, length-remainder, remainder-steps}
+
+-- the divisor times a polynomial
+pub record Multiple (cs : List ℕ) : Type 0 where
+  pub quotient : List ℕ
+  pub coefs : Coefficients quotient
+  pub is : cs ≡ product divisor quotient
+
+-- ---- a product as a number
+
+module _ (q : ℕ) (qs : List ℕ) where
+  length-part : length (scaled q divisor ++ replicate (length qs) 0) ≡ 33 + length qs
+  length-part =
+      length-append (scaled q divisor) (replicate (length qs) 0)
+      ∙ ap₂ (λ (x y : ℕ). x + y) (length-scaled q divisor ∙ length-divisor) (length-replicate {A = ℕ} (length qs) 0)
+
+length-product : (qs : List ℕ) → length (product divisor qs) ≡ 32 + length qs
+length-product [] = length-replicate {A = ℕ} (length divisor - 1) 0 ∙ ap (λ (n : ℕ). n - 1) length-divisor
+length-product (q ∷ qs) =
+    let e : length (product divisor qs) ≡ 32 + length qs = length-product qs in
+    length-plus (scaled q divisor ++ replicate (length qs) 0) (0 ∷ product divisor qs) (omega (arith, length-part q qs))
+    ∙ length-part q qs
+    ∙ omega arith
+
+number-divisor : number divisor ≡ 1 + feedback * 2
+unfolding number divisor
+number-divisor = refl
+
+number-part : (q n : ℕ) → number (scaled q divisor ++ replicate n 0) ≡ q + q * feedback * 2
+number-part q n =
+    let e : q * (1 + feedback * 2) ≡ q + q * feedback * 2 = omega arith in
+    number-tail (scaled q divisor) n ∙ number-scaled q divisor ∙ ap (λ (x : ℕ). q * x) number-divisor ∙ e
+
+number-times-x : (cs : List ℕ) → number (0 ∷ cs) ≡ number cs * 2
+unfolding number
+number-times-x cs = zero-add (number cs * 2)
+
+number-product : (q : ℕ) (qs : List ℕ) → q < 2
+    → number (product divisor (q ∷ qs)) ≡ bitXor (q + q * feedback * 2) (number (product divisor qs) * 2)
+number-product q qs h =
+    number-plus (scaled q divisor ++ replicate (length qs) 0) (0 ∷ product divisor qs)
+    (coefs-append (scaled q divisor) (replicate (length qs) 0) (coefs-scaled q divisor h coefs-divisor) (coefs-zeros (length qs)))
+    (zero-lt-suc 1, coefs-product divisor qs)
+    (omega (arith, length-part q qs, length-product qs))
+    ∙ ap₂ bitXor (number-part q (length qs)) (number-times-x (product divisor qs))
+
+-- ---- of a multiple nothing is left
+
+differ-zero : (x : ℕ) → differ x zero ≡ x
+differ-zero zero = refl
+differ-zero (suc x) = refl
+
+module _ (q m : ℕ) (h : q < 2) where
+  -- half of a multiple's number, and its lowest bit
+  multiple-half : bitXor (q + q * feedback * 2) (m * 2) / 2 ≡ bitXor (q * feedback) m
+  multiple-half =
+      let p : (q + q * feedback * 2) / 2 ≡ q * feedback = omega arith in
+      let r : m * 2 / 2 ≡ m = omega arith in
+      xor-half (q + q * feedback * 2) (m * 2) ∙ ap₂ bitXor p r
+
+  multiple-odd : bitXor (q + q * feedback * 2) (m * 2) % 2 ≡ q
+  multiple-odd =
+      let u : (q + q * feedback * 2) % 2 ≡ q = omega arith in
+      let v : m * 2 % 2 ≡ 0 = omega arith in
+      xor-odd (q + q * feedback * 2) (m * 2) ∙ ap₂ differ u v ∙ differ-zero q
+
+  -- a step takes the divisor away again
+  step-multiple : step (bitXor (q + q * feedback * 2) (m * 2)) ≡ m
+  unfolding step
+  step-multiple =
+      ap₂ (λ (x y : ℕ). bitXor x (y * feedback)) (multiple-half ∙ xor-comm (q * feedback) m) multiple-odd
+      ∙ xor-twice m (q * feedback)
+
+steps-product : (qs : List ℕ) → Coefficients qs → steps (length qs) (number (product divisor qs)) ≡ 0
+unfolding steps
+steps-product [] h = number-zeros (length divisor - 1)
+steps-product (q ∷ qs) h =
+    ap (λ (n : ℕ). steps (length qs) (step n)) (number-product q qs (h .0))
+    ∙ ap (steps (length qs)) (step-multiple q (number (product divisor qs)) (h .0))
+    ∙ steps-product qs (h .1)
+
+pub product-zero : (cs : List ℕ) → Multiple cs → remainder cs ≡ replicate 32 0
+product-zero cs m =
+    let p : List ℕ = product divisor (m .quotient) in
+    ap remainder (m .is)
+    ∙ number-inj (remainder p) (replicate 32 0) (coefs-remainder p) (coefs-zeros 32) (length-remainder p)
+    (remainder-steps (length (m .quotient)) p (coefs-product divisor (m .quotient)) (length-product (m .quotient))
+    ∙ steps-product (m .quotient) (m .coefs)
+    ∙ sym (number-zeros 32))
+
+-- ---- division with remainder
+
+-- the quotient's k coefficients: those that the division drops
+quotientOf : ℕ → ℕ → List ℕ
+quotientOf zero n = []
+quotientOf (suc k) n = n % 2 ∷ quotientOf k (step n)
+
+coefs-quotient : (k n : ℕ) → Coefficients (quotientOf k n)
+unfolding quotientOf
+coefs-quotient zero n = tt
+coefs-quotient (suc k) n = (bit-lt n, coefs-quotient k (step n))
+
+length-quotient : (k n : ℕ) → length (quotientOf k n) ≡ k
+unfolding quotientOf
+length-quotient zero n = refl
+length-quotient (suc k) n = ap suc (length-quotient k (step n))
+
+-- a number is known by its half and its lowest bit
+halves : (m n : ℕ) → m / 2 ≡ n / 2 → m % 2 ≡ n % 2 → m ≡ n
+halves m n p q = omega arith
+
+step-undone : (n : ℕ) → bitXor (n % 2 + n % 2 * feedback * 2) (step n * 2) ≡ n
+unfolding step
+step-undone n =
+    let q : ℕ = n % 2 * feedback in
+    halves (bitXor (n % 2 + n % 2 * feedback * 2) (step n * 2)) n
+    (multiple-half (n % 2) (step n) (bit-lt n) ∙ xor-comm q (step n) ∙ xor-twice (n / 2) q)
+    (multiple-odd (n % 2) (step n) (bit-lt n))
+
+-- a number is the divisor times the quotient, plus what is left
+steps-whole : (k n : ℕ) → bitXor (number (product divisor (quotientOf k n))) (steps k n * 2 ^ k) ≡ n
+unfolding quotientOf steps
+steps-whole zero n = ap (λ (x : ℕ). bitXor x (n * 1)) (number-zeros (length divisor - 1)) ∙ mul-one n
+steps-whole (suc k) n =
+    let m : ℕ = number (product divisor (quotientOf k (step n))) in
+    let t : ℕ = steps k (step n) * 2 ^ k in
+    let a : ℕ = n % 2 + n % 2 * feedback * 2 in
+    ap₂ bitXor (number-product (n % 2) (quotientOf k (step n)) (bit-lt n)) (ap (λ (x : ℕ). steps k (step n) * x) (pow-suc 2 k) ∙ sym (mul-assoc (steps k (step n)) (2 ^ k) 2))
+    ∙ xor-assoc a (m * 2) (t * 2)
+    ∙ ap (bitXor a) (sym (xor-double m t) ∙ ap (λ (x : ℕ). x * 2) (steps-whole k (step n)))
+    ∙ step-undone n
+
+pub zero-product : (cs : List ℕ) → Coefficients cs → 32 ≤ length cs → remainder cs ≡ replicate 32 0 → Multiple cs
+zero-product cs h l z =
+    let k : ℕ = length cs - 32 in
+    let n : ℕ = number cs in
+    let e : length cs ≡ 32 + k = omega arith in
+    let q : List ℕ = quotientOf k n in
+    let w : steps k n ≡ 0 = sym (remainder-steps k cs h e) ∙ ap number z ∙ number-zeros 32 in
+    record {
+      quotient = q;
+      coefs = coefs-quotient k n;
+      is =
+          number-inj cs (product divisor q) h (coefs-product divisor q)
+          (e ∙ sym (length-product q ∙ ap (λ (x : ℕ). 32 + x) (length-quotient k n)))
+          (sym (steps-whole k n)
+          ∙ ap (λ (x : ℕ). bitXor (number (product divisor q)) (x * 2 ^ k)) w
+          ∙ ap (bitXor (number (product divisor q))) (zero-mul (2 ^ k))
+          ∙ xor-zero-r (number (product divisor q)));
+    }
