@@ -1,0 +1,3 @@
+pub mod Repair
+pub mod Laws
+pub mod Candidate
