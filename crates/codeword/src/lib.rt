@@ -13,3 +13,6 @@ pub enum Verdict {
     Change(usize, u8),
     Lost,
 }
+
+// Two bytes, in the order in which they stand in a word.
+pub struct TwoBytes(pub u8, pub u8);
