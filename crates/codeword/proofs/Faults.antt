@@ -12,7 +12,7 @@ use Rattle.outcome.specs.First.{firstBelow}
 use Rattle.outcome.specs.Table.{allBelow, below, of-true}
 use Rattle.codeword.specs.Code.{sums}
 use Rattle.codeword.specs.Nearest.{verdict}
-use Rattle.codeword.specs.Fault.{allZero, fits, fault, cure}
+use Rattle.codeword.specs.Fault.{allZero, fits, faultAt, fault, cure}
 use Rattle.codeword.specs.FaultLaws.{verdict-by-sums}
 use Rattle.codeword.specs.declared.Fault.{Fault}
 use Rattle.codeword.specs.declared.Fault.the-variants.{Clean, At, Lost}
@@ -58,13 +58,9 @@ module _ (s : List ℕ) (k : ℕ) where
     unfolding fault
     fault-none z = rw (le-ltb 255 k h, z)
 
-    pub fault-here : allZero s ≡ false → {m : ℕ} → m ≡ firstBelow (fits s) k → m < k → At (k - 1 - m) (getD s 0 0) ≡ fault s k
+    pub fault-found : allZero s ≡ false → {m : ℕ} {f : Fault} → m ≡ firstBelow (fits s) k → f ≡ faultAt (getD s 0 0) k m → f ≡ fault s k
     unfolding fault
-    fault-here z e l = rw (le-ltb 255 k h, z, ← e, lt-ltb _ k l)
-
-    pub fault-nowhere : allZero s ≡ false → {m : ℕ} → m ≡ firstBelow (fits s) k → k ≤ m → Lost ≡ fault s k
-    unfolding fault
-    fault-nowhere z e l = rw (le-ltb 255 k h, z, ← e, le-ltb _ k l)
+    fault-found z e p = rw (le-ltb 255 k h, z, ← e) p
 
 -- ---- from the sums of a word to the verdict on it
 

@@ -11,7 +11,7 @@ use native.Mathlib.Omega.{arith}
 use lib.ListN.{length}
 use Rattle.outcome.specs.First.{firstBelow}
 use Rattle.codeword.specs.Fault.{allZero, fits}
-use Rattle.codeword.proofs.Faults.{four-listed, not-zero, zero-four, fault-long, fault-none, fault-here, fault-nowhere}
+use Rattle.codeword.proofs.Faults.{four-listed, not-zero, zero-four, fault-long, fault-none, fault-found}
 use Rattle.codeword.proofs.verdicts.fault_of_four.Statement.{statement}
 use Rattle.codeword.proofs.verdicts.fault_of_four.Tie as tie
 use Rattle.codeword.proofs.verdicts.fault_of_four.Reads as reads
@@ -46,12 +46,6 @@ returns-2 c =
 after-of-four-requires : tie.Need-after-of-four-requires
 after-of-four-requires c κs = search needs
 
-sub-t23 : tie.Need-sub-t23
-sub-t23 c = search needs
-
-sub-t24 : tie.Need-sub-t24
-sub-t24 c = search needs
-
 unclean : (c : tie.Joined2) → allZero (c .before .before .args .t1) ≡ false
 unclean c =
     let l = long (c .before .before) in
@@ -64,15 +58,13 @@ first c =
     c .after-of-four .ensures
     ∙ ap (λ (s : List ℕ). firstBelow (fits s) (c .before .before .before .args .k)) (sym (four-listed _ (long (c .before .before .before))))
 
+fault-at-requires : tie.Need-fault-at-requires
+fault-at-requires c κs = search needs
+
 returns-3 : tie.Need-returns-3
 returns-3 c =
     let j = c .before .before in
-    fault-here _ _ (j .before .if1 .left) (unclean j) (first (c .before)) (c .if6 .taken)
-
-returns-4 : tie.Need-returns-4
-returns-4 c =
-    let j = c .before .before in
-    fault-nowhere _ _ (j .before .if1 .left) (unclean j) (first (c .before)) (c .if6 .left)
+    fault-found _ _ (j .before .if1 .left) (unclean j) (first (c .before)) (c .fault-at .ensures)
 
 pub fault-of-four-spec : {M : Type 1} → statement M
 fault-of-four-spec =
@@ -85,7 +77,5 @@ fault-of-four-spec =
     returns
     returns-2
     after-of-four-requires
-    sub-t23
-    sub-t24
-    returns-3
-    returns-4)
+    fault-at-requires
+    returns-3)
