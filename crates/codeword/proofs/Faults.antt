@@ -3,10 +3,10 @@
 use mathlib.Core.Path.{_≡_, refl, sym, ap, _∙_}
 use mathlib.Core.Bool.{Bool, true, false}
 use mathlib.Core.List.{List, [], _∷_}
-use Prim.Native.Nat.{ℕ, zero, suc, _-_, _≤_, _<_}
+use Prim.Native.Nat.{ℕ, _≤_, _<_}
 use native.Mathlib.Omega.{arith}
 use borrow.Author.Tests.{lt-ltb, le-ltb}
-use lib.Dec.{eqb, eqb→eq, ltb}
+use lib.Dec.{eqb, eqb→eq}
 use lib.ListN.{length, getD}
 use Rattle.outcome.specs.First.{firstBelow}
 use Rattle.outcome.specs.Table.{allBelow, below, of-true}
@@ -15,7 +15,7 @@ use Rattle.codeword.specs.Nearest.{verdict}
 use Rattle.codeword.specs.Fault.{allZero, fits, faultAt, fault, cure}
 use Rattle.codeword.specs.FaultLaws.{verdict-by-sums}
 use Rattle.codeword.specs.declared.Fault.{Fault}
-use Rattle.codeword.specs.declared.Fault.the-variants.{Clean, At, Lost}
+use Rattle.codeword.specs.declared.Fault.the-variants.{Clean, Lost}
 use Rattle.codeword.specs.declared.Verdict.{Verdict}
 
 -- an array of four as the list of its elements

@@ -1,6 +1,6 @@
 -- Bytes with given sums, as the functions compute them: the steps are the forms of `Solve`.
 -- Assumes nothing.
-use mathlib.Core.Path.{_≡_, refl, sym, subst}
+use mathlib.Core.Path.{_≡_, refl, subst}
 use mathlib.Core.List.{List, [], _∷_, map}
 use Prim.Native.Nat.{ℕ, _<_}
 use lib.Bits.{bitXor}

@@ -6,7 +6,7 @@ use Prim.Native.Nat.{ℕ, zero, suc, _+_, _*_, _<_, _≤_}
 use native.Mathlib.Nat.{zero-mul, mul-zero, mul-one, mul-add}
 use native.Mathlib.Numerals.{add-one}
 use native.Mathlib.Omega.{arith}
-use lib.Bits.{bitXor, xor-self, xor-zero-r, xor-lt}
+use lib.Bits.{bitXor, xor-zero-r, xor-lt}
 use lib.ListN.{length, getD, set, take, length-append, length-set}
 use lib.Seq.{take-suc, take-all}
 use Rattle.outcome.specs.Bytes.{Bytes, bytes-nil, bytes-cons, bytes-take}

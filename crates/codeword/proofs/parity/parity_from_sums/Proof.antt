@@ -1,7 +1,7 @@
 -- `codeword::parity::parity_from_sums` meets its contract: its two steps are those of `two-solved`.
 -- Assumes nothing.
 use borrow.Author.Needs.{needs}
-use mathlib.Core.Path.{_≡_, subst}
+use mathlib.Core.Path.{subst}
 use mathlib.Core.List.{[], _∷_}
 use Prim.Native.Nat.{ℕ}
 use native.Mathlib.Omega.{arith}
@@ -12,9 +12,6 @@ use Rattle.codeword.specs.Parity.{WithSums}
 use Rattle.codeword.proofs.Solved.{two-solved}
 use Rattle.codeword.proofs.parity.parity_from_sums.Statement.{statement}
 use Rattle.codeword.proofs.parity.parity_from_sums.Tie as tie
-use Rattle.codeword.proofs.parity.parity_from_sums.Reads as reads
-use Rattle.codeword.proofs.parity.parity_from_sums.Lts as lts
-use Rattle.field.proofs.product.Reads as product-reads
 
 product-requires : tie.Need-product-requires
 product-requires c κs = search needs

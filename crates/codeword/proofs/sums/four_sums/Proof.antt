@@ -1,7 +1,7 @@
 -- `codeword::sums::four_sums` meets its contract. After i bytes, s0 to s3 are the sums of those bytes; `sum-step` takes each one byte on.
 -- Assumes nothing.
 use borrow.Author.Needs.{needs}
-use mathlib.Core.Path.{_≡_, sym, ap₂, _∙_}
+use mathlib.Core.Path.{_≡_, sym, _∙_}
 use mathlib.Core.List.{[], _∷_}
 use Prim.Native.Nat.{ℕ, _≤_, _-_}
 use lib.ListN.{length, take}
@@ -11,9 +11,6 @@ use Rattle.codeword.specs.Code.{sum}
 use Rattle.codeword.specs.Sums.{sum-none, sum-step, sum-all, times-0}
 use Rattle.codeword.proofs.sums.four_sums.Statement.{statement}
 use Rattle.codeword.proofs.sums.four_sums.Tie as tie
-use Rattle.codeword.proofs.sums.four_sums.Reads as reads
-use Rattle.codeword.proofs.sums.four_sums.Lts as lts
-use Rattle.field.proofs.product.Reads as product-reads
 
 abbrev Inv-loop : tie.InvT-loop
 Inv-loop w s0₀ s1₀ s2₀ s3₀ i₀ s0 s1 s2 s3 i =

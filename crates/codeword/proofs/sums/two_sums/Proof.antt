@@ -11,9 +11,6 @@ use Rattle.codeword.specs.Code.{sum}
 use Rattle.codeword.specs.Sums.{sum-none, sum-step, sum-all, times-0}
 use Rattle.codeword.proofs.sums.two_sums.Statement.{statement}
 use Rattle.codeword.proofs.sums.two_sums.Tie as tie
-use Rattle.codeword.proofs.sums.two_sums.Reads as reads
-use Rattle.codeword.proofs.sums.two_sums.Lts as lts
-use Rattle.field.proofs.product.Reads as product-reads
 
 abbrev Inv-loop : tie.InvT-loop
 Inv-loop w s0₀ s1₀ i₀ s0 s1 i = (i ≤ length w) × (s0 ≡ sum 0 (take i w)) × (s1 ≡ sum 1 (take i w))

@@ -12,9 +12,6 @@ use Rattle.codeword.specs.Fault.{fits}
 use Rattle.codeword.proofs.Search.{Passed, passed-none, passed-more, found-here, found-none, weighted-none, weighted-more, fits-four, fits-not}
 use Rattle.codeword.proofs.verdicts.after_of_four.Statement.{statement}
 use Rattle.codeword.proofs.verdicts.after_of_four.Tie as tie
-use Rattle.codeword.proofs.verdicts.after_of_four.Reads as reads
-use Rattle.codeword.proofs.verdicts.after_of_four.Lts as lts
-use Rattle.field.proofs.product.Reads as product-reads
 
 abbrev Inv-loop : tie.InvT-loop
 Inv-loop s0 s1 s2 s3 k t1₀ t2₀ t3₀ m₀ t1 t2 t3 m =

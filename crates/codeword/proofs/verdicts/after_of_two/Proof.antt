@@ -10,9 +10,6 @@ use Rattle.codeword.specs.Fault.{fits}
 use Rattle.codeword.proofs.Search.{Passed, passed-none, passed-more, found-here, found-none, weighted-none, weighted-more, fits-two, fits-not}
 use Rattle.codeword.proofs.verdicts.after_of_two.Statement.{statement}
 use Rattle.codeword.proofs.verdicts.after_of_two.Tie as tie
-use Rattle.codeword.proofs.verdicts.after_of_two.Reads as reads
-use Rattle.codeword.proofs.verdicts.after_of_two.Lts as lts
-use Rattle.field.proofs.product.Reads as product-reads
 
 abbrev Inv-loop : tie.InvT-loop
 Inv-loop s0 s1 k t1₀ m₀ t1 m = Passed (fits (s0 ∷ s1 ∷ [])) k m × (t1 ≡ mul s0 (power (1 * m)))

@@ -5,7 +5,7 @@ use borrow.Author.Needs.{needs}
 use mathlib.Core.Path.{_≡_, sym, ap, _∙_}
 use mathlib.Core.Bool.{false}
 use mathlib.Core.Logic.{⊎-elim}
-use mathlib.Core.List.{List, [], _∷_}
+use mathlib.Core.List.{List}
 use Prim.Native.Nat.{ℕ}
 use native.Mathlib.Omega.{arith}
 use lib.ListN.{length}
@@ -14,9 +14,6 @@ use Rattle.codeword.specs.Fault.{allZero, fits}
 use Rattle.codeword.proofs.Faults.{four-listed, not-zero, zero-four, fault-long, fault-none, fault-found}
 use Rattle.codeword.proofs.verdicts.fault_of_four.Statement.{statement}
 use Rattle.codeword.proofs.verdicts.fault_of_four.Tie as tie
-use Rattle.codeword.proofs.verdicts.fault_of_four.Reads as reads
-use Rattle.codeword.proofs.verdicts.fault_of_four.Lts as lts
-use Rattle.codeword.proofs.verdicts.after_of_four.Reads as after-of-four-reads
 
 long : (c : tie.Start) → length (c .args .t1) ≡ 4
 long c = search needs

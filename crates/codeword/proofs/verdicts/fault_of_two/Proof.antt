@@ -10,9 +10,6 @@ use Rattle.codeword.specs.Fault.{allZero}
 use Rattle.codeword.proofs.Faults.{not-zero, zero-two, fault-long, fault-none, fault-found}
 use Rattle.codeword.proofs.verdicts.fault_of_two.Statement.{statement}
 use Rattle.codeword.proofs.verdicts.fault_of_two.Tie as tie
-use Rattle.codeword.proofs.verdicts.fault_of_two.Reads as reads
-use Rattle.codeword.proofs.verdicts.fault_of_two.Lts as lts
-use Rattle.codeword.proofs.verdicts.after_of_two.Reads as after-of-two-reads
 
 returns : tie.Need-returns
 returns c = fault-long _ _ (c .if1 .taken)
