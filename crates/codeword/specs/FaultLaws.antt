@@ -68,10 +68,10 @@ module _ (J : ℕ) (w : List ℕ) where
   unfolding isCodeword fits changed
   fits-code m h =
       same-all (λ j. eqb (sum j (changed w m)) 0) (λ j. eqb (getD (sums J w) j 0) (mul (getD (sums J w) 0 0) (power (j * m)))) J
-        (λ j k.
-        ap (λ (x : ℕ). eqb x 0) (sum-set j w (placeBefore m (length w)) m (sum 0 w) (omega arith))
-        ∙ xor-eqb (sum j w) (mul (sum 0 w) (power (j * m)))
-        ∙ ap₂ (λ (x y : ℕ). eqb x (mul y (power (j * m)))) (sym (sums-at j k)) (sym (sums-at 0 (omega arith))))
+      (λ j k.
+      ap (λ (x : ℕ). eqb x 0) (sum-set j w (placeBefore m (length w)) m (sum 0 w) (omega arith))
+      ∙ xor-eqb (sum j w) (mul (sum 0 w) (power (j * m)))
+      ∙ ap₂ (λ (x y : ℕ). eqb x (mul y (power (j * m)))) (sym (sums-at j k)) (sym (sums-at 0 (omega arith))))
       ∙ ap (allBelow (λ j. eqb (getD (sums J w) j 0) (mul (getD (sums J w) 0 0) (power (j * m))))) (sym sums-long)
 
   -- ---- the verdict on a word is what its sums say
@@ -80,12 +80,12 @@ module _ (J : ℕ) (w : List ℕ) where
   unfolding verdict fault
   verdict-by-sums hj =
       rw (← zero-code, ← same-first (λ m. isCodeword J (changed w m)) (fits (sums J w)) (length w) fits-code, sums-at 0 hj)
-        (go (ltb 255 (length w)) (isCodeword J w) (ltb (bytesAfter J w) (length w)))
+      (go (ltb 255 (length w)) (isCodeword J w) (ltb (bytesAfter J w) (length w)))
     where
       go : (long code inside : Bool)
           → cond long verdicts.Lost
-              (cond code verdicts.Clean (cond inside (verdicts.Change (placeBefore (bytesAfter J w) (length w)) (newByte w (bytesAfter J w))) verdicts.Lost))
-            ≡ cure w (cond long faults.Lost (cond code faults.Clean (cond inside (faults.At (placeBefore (bytesAfter J w) (length w)) (sum 0 w)) faults.Lost)))
+          (cond code verdicts.Clean (cond inside (verdicts.Change (placeBefore (bytesAfter J w) (length w)) (newByte w (bytesAfter J w))) verdicts.Lost))
+          ≡ cure w (cond long faults.Lost (cond code faults.Clean (cond inside (faults.At (placeBefore (bytesAfter J w) (length w)) (sum 0 w)) faults.Lost)))
       go true code inside = refl
       go false true inside = refl
       go false false true = refl
