@@ -6,15 +6,15 @@ use Prim.Native.Nat.{ℕ, zero, suc, _+_, _*_, _<_, _≤_}
 use native.Mathlib.Nat.{zero-mul, mul-zero, mul-one, mul-add}
 use native.Mathlib.Numerals.{add-one}
 use native.Mathlib.Omega.{arith}
-use lib.Bits.{bitXor, xor-self, xor-zero-r, xor-lt}
+use lib.Bits.{bitXor, xor-zero-r, xor-lt}
 use lib.ListN.{length, getD, set, take, length-append, length-set}
 use lib.Seq.{take-suc, take-all}
 use Rattle.outcome.specs.Bytes.{Bytes, bytes-nil, bytes-cons, bytes-take}
 use Rattle.xor.specs.Laws.{xor-assoc, xor-swap, xor-right-comm}
-use Rattle.field.specs.Field.{timesAlpha, power, mul}
+use Rattle.field.specs.Field.{power, mul}
 use Rattle.field.specs.Linear.{mul-xor, mul-zero-l, mul-one-r}
 use Rattle.field.specs.Powers.{power-zero}
-use Rattle.field.specs.Laws.{mul-lt, mul-power-suc, mul-power-add}
+use Rattle.field.specs.Laws.{mul-lt, mul-power-add}
 use Rattle.codeword.specs.Code.{sum}
 
 -- ---- times a power
@@ -25,15 +25,6 @@ times-0 x = ap (mul x) power-zero ∙ mul-one-r x
 -- in the first sum each byte counts once
 pub times-none : (x m : ℕ) → mul x (power (0 * m)) ≡ x
 times-none x m = ap (λ (n : ℕ). mul x (power n)) (zero-mul m) ∙ times-0 x
-
-pub times-1 : (x : ℕ) → x < 256 → mul x (power 1) ≡ timesAlpha x
-times-1 x h = mul-power-suc x 0 h ∙ ap timesAlpha (times-0 x)
-
-pub times-2 : (x : ℕ) → x < 256 → mul x (power 2) ≡ timesAlpha (timesAlpha x)
-times-2 x h = mul-power-suc x 1 h ∙ ap timesAlpha (times-1 x h)
-
-pub times-3 : (x : ℕ) → x < 256 → mul x (power 3) ≡ timesAlpha (timesAlpha (timesAlpha x))
-times-3 x h = mul-power-suc x 2 h ∙ ap timesAlpha (times-2 x h)
 
 -- ---- a sum is a byte
 
@@ -49,9 +40,9 @@ unfolding sum
 sum-append j [] b h = sym (ap (λ (x : ℕ). bitXor x (sum j b)) (mul-zero-l (power (j * length b))))
 sum-append j (x ∷ a) b h =
     ap₂ bitXor
-      (ap (λ (n : ℕ). mul x (power (j * n))) (length-append a b) ∙ ap (λ (n : ℕ). mul x (power n)) (mul-add j (length a) (length b))
-       ∙ sym (mul-power-add x (j * length a) (j * length b) (h 0)))
-      (sum-append j a b (λ i. h (suc i)))
+    (ap (λ (n : ℕ). mul x (power (j * n))) (length-append a b) ∙ ap (λ (n : ℕ). mul x (power n)) (mul-add j (length a) (length b))
+    ∙ sym (mul-power-add x (j * length a) (j * length b) (h 0)))
+    (sum-append j a b (λ i. h (suc i)))
     ∙ sym (xor-assoc (mul (mul x (power (j * length a))) (power (j * length b))) (mul (sum j a) (power (j * length b))) (sum j b))
     ∙ ap (λ (y : ℕ). bitXor y (sum j b)) (sym (mul-xor (mul x (power (j * length a))) (sum j a) (power (j * length b))))
 
@@ -66,13 +57,12 @@ unfolding sum
 sum-none j w = refl
 
 -- a step of a loop that makes sum j: t is the sum so far times α^j
-pub sum-step : (j : ℕ) (w : List ℕ) (i : ℕ) {s t : ℕ} → Bytes w → i < length w → s ≡ sum j (take i w) → (s < 256 → t ≡ mul s (power j))
+pub sum-step : (j : ℕ) (w : List ℕ) (i : ℕ) {s t : ℕ} → Bytes w → i < length w → s ≡ sum j (take i w) → t ≡ mul s (power j)
     → bitXor t (getD w i 0) ≡ sum j (take (i + 1) w)
 sum-step j w i h l p q =
-    let ht : Bytes (take i w) = bytes-take i w h in
-    ap (λ (x : ℕ). bitXor x (getD w i 0)) (q (omega (arith, sum-lt j (take i w) ht)) ∙ ap (λ (x : ℕ). mul x (power j)) p)
+    ap (λ (x : ℕ). bitXor x (getD w i 0)) (q ∙ ap (λ (x : ℕ). mul x (power j)) p)
     ∙ ap₂ (λ (n b : ℕ). bitXor (mul (sum j (take i w)) (power n)) b) (sym (mul-one j)) (sym (sum-one j (getD w i 0)))
-    ∙ sym (sum-append j (take i w) (getD w i 0 ∷ []) ht)
+    ∙ sym (sum-append j (take i w) (getD w i 0 ∷ []) (bytes-take i w h))
     ∙ ap (sum j) (sym (take-suc w i 0 l))
     ∙ ap (λ (n : ℕ). sum j (take n w)) (sym (add-one i))
 
@@ -133,7 +123,7 @@ sum-front : (j : ℕ) (p q b : List ℕ) → Bytes p → Bytes q → length p �
 sum-front j p q b hp hq e =
     sum-append j (added p q) b (bytes-added p q hp hq)
     ∙ ap (λ (x : ℕ). bitXor x (sum j b))
-        (ap (λ (x : ℕ). mul x (power (j * length b))) (sum-added j p q e) ∙ mul-xor (sum j p) (sum j q) (power (j * length b)))
+    (ap (λ (x : ℕ). mul x (power (j * length b))) (sum-added j p q e) ∙ mul-xor (sum j p) (sum j q) (power (j * length b)))
     ∙ xor-right-comm (mul (sum j p) (power (j * length b))) (mul (sum j q) (power (j * length b))) (sum j b)
     ∙ ap (λ (x : ℕ). bitXor x (mul (sum j q) (power (j * length b)))) (sym (sum-append j p b hp))
 
