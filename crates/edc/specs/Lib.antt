@@ -9,3 +9,4 @@ pub mod Multiple
 pub mod Laws
 pub mod Zero
 pub mod Rows
+pub mod Vector
