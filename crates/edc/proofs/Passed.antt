@@ -12,10 +12,10 @@ use lib.Seq.{take-all, take-add, drop-cons, length-take-le}
 use Rattle.outcome.specs.Bytes.{Bytes}
 use Rattle.edc.specs.Bits.{bits, number}
 use Rattle.edc.specs.Edc.{divided, remainder}
-use Rattle.edc.specs.Coefficients.{coefs-bits, length-bits, bits-append}
+use Rattle.edc.specs.Coefficients.{coefs-bits, coefs-remainder, length-bits, length-remainder, bits-append}
 use Rattle.edc.specs.Numbers.{number-byte, number-lt}
 use Rattle.edc.specs.Register.{steps, steps-split}
-use Rattle.edc.specs.Division.{coefs-remainder, length-remainder, remainder-append}
+use Rattle.edc.specs.Division.{remainder-append}
 
 -- ---- one and four bytes as a number
 

@@ -11,10 +11,10 @@ use Rattle.outcome.specs.Bytes.{Bytes, bytes-nil, bytes-cons}
 use Rattle.edc.specs.Bits.{bitsOf, bits, number, bytesOf}
 use Rattle.edc.specs.Polynomial.{Coefficients, plus}
 use Rattle.edc.specs.Edc.{remainder, edc, Divisible}
-use Rattle.edc.specs.Coefficients.{coefs-append, coefs-zeros, coefs-drop, coefs-bits, coefs-plus, length-bits, length-plus, bits-append}
+use Rattle.edc.specs.Coefficients.{coefs-append, coefs-zeros, coefs-drop, coefs-bits, coefs-plus, length-bits, length-plus, bits-append, coefs-remainder, length-remainder}
 use Rattle.edc.specs.Numbers.{number-zeros, number-append, number-lt, number-plus, number-inj, first-byte-lt, bits-bytesOf, bytesOf-bits}
 use Rattle.edc.specs.Register.{steps, steps-split, steps-zeros}
-use Rattle.edc.specs.Division.{coefs-remainder, length-remainder, divided-steps, remainder-append}
+use Rattle.edc.specs.Division.{remainder-append}
 
 -- ---- sums of polynomials
 

@@ -11,10 +11,10 @@ use Rattle.xor.specs.Laws.{xor-half, xor-odd, xor-assoc, xor-twice, xor-double,
 use Rattle.edc.specs.Bits.{number}
 use Rattle.edc.specs.Polynomial.{Coefficients, plus, scaled, product, divisor}
 use Rattle.edc.specs.Edc.{remainder}
-use Rattle.edc.specs.Coefficients.{coefs-append, coefs-zeros, coefs-scaled, coefs-product, coefs-divisor, length-divisor, length-plus, length-scaled}
+use Rattle.edc.specs.Coefficients.{coefs-append, coefs-zeros, coefs-scaled, coefs-product, coefs-divisor, coefs-remainder, length-divisor, length-plus, length-scaled, length-remainder}
 use Rattle.edc.specs.Numbers.{number-zeros, number-tail, number-plus, number-scaled, number-inj}
 use Rattle.edc.specs.Register.{feedback, step, steps}
-use Rattle.edc.specs.Division.{coefs-remainder, length-remainder, remainder-steps}
+use Rattle.edc.specs.Division.{remainder-steps}
 
 -- the divisor times a polynomial
 pub record Multiple (cs : List ℕ) : Type 0 where

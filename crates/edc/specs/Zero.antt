@@ -10,7 +10,7 @@ use lib.Dec.{eqb, eqb·suc-zero}
 use lib.ListN.{length, replicate}
 use Rattle.edc.specs.Bits.{bits, number}
 use Rattle.edc.specs.Edc.{remainder, isZero, Divisible}
-use Rattle.edc.specs.Division.{length-remainder}
+use Rattle.edc.specs.Coefficients.{length-remainder}
 
 false-true : false ≡ true → ⊥
 false-true e = let z : _≡_ {A = ℕ} 0 1 = cc in omega arith
