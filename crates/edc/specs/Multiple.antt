@@ -9,10 +9,10 @@ use native.Mathlib.Omega.{arith}
 use lib.Bits.{bitXor, differ, xor-zero-r, xor-comm}
 use lib.ListN.{length, replicate}
 use Rattle.xor.specs.Laws.{xor-half, xor-odd, xor-assoc, xor-twice, xor-double, bit-lt}
-use Rattle.edc.specs.Bits.{number}
+use Rattle.edc.specs.Bits.{bits, number}
 use Rattle.edc.specs.Polynomial.{Coefficients, product, divisor}
-use Rattle.edc.specs.Edc.{remainder}
-use Rattle.edc.specs.Coefficients.{coefs-zeros, coefs-product, coefs-remainder, length-remainder}
+use Rattle.edc.specs.Edc.{remainder, Divisible}
+use Rattle.edc.specs.Coefficients.{coefs-zeros, coefs-bits, coefs-product, coefs-remainder, length-bits, length-remainder}
 use Rattle.edc.specs.Numbers.{number-zeros, number-inj}
 use Rattle.edc.specs.Register.{feedback, step, steps}
 use Rattle.edc.specs.Division.{remainder-steps}
@@ -130,3 +130,11 @@ zero-product cs h l z =
           ∙ ap (bitXor (number (product divisor q))) (zero-mul (2 ^ k))
           ∙ xor-zero-r (number (product divisor q)));
     }
+
+-- ---- the same of bytes: four or more are divisible exactly where they are a multiple
+
+pub divisible-multiple : (bytes : List ℕ) → 4 ≤ length bytes → Divisible bytes → Multiple (bits bytes)
+divisible-multiple bytes l z = zero-product (bits bytes) (coefs-bits bytes) (omega (arith, length-bits bytes)) z
+
+pub multiple-divisible : (bytes : List ℕ) → Multiple (bits bytes) → Divisible bytes
+multiple-divisible bytes m = product-zero (bits bytes) m

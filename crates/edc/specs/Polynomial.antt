@@ -1,4 +1,5 @@
--- Polynomials with coefficients modulo 2: the list of the coefficients, each 0 or 1, the highest power first.
+-- Polynomials with coefficients modulo 2, and the check polynomial of clause 14.3. A polynomial is the list of its coefficients, each
+-- 0 or 1, the highest power first.
 -- Assumes nothing.
 use mathlib.Core.Path.{_≡_, refl}
 use mathlib.Core.Bool.{cond}

@@ -37,6 +37,7 @@ fn word(a: u8, b: u8, c: u8, d: u8) -> u32
     (a as u32) + (b as u32) * 256 + (c as u32) * 65536 + (d as u32) * 16777216
 }
 
+// The four bytes from i on.
 fn word_at(bytes: &[u8], i: usize) -> u32
     requires { ⌜ i + 4 ≤ length (now bytes) ⌝ }
     ensures { λ r. ⌜ r ≡ number (bits (take 4 (drop i (now (bytes .entry))))) ⌝ }
