@@ -1,0 +1,4 @@
+pub mod Spread
+pub mod Entries
+pub mod Passed
+pub mod Digits
