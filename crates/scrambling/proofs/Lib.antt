@@ -1,0 +1,3 @@
+mod Chain
+mod Masked
+mod Pairs

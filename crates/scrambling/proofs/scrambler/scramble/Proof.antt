@@ -1,0 +1,39 @@
+-- `scramble` meets its contract: each way out is a law of `Entry`, whose premises are what the tests and `put_scrambled` said.
+-- Assumes nothing.
+use borrow.Author.Needs.{needs}
+use Rattle.scrambling.specs.Entry.{on-incoming, on-outgoing, on-done}
+use Rattle.scrambling.proofs.scrambler.scramble.Statement.{statement}
+use Rattle.scrambling.proofs.scrambler.scramble.Tie as tie
+
+wipe-requires : tie.Need-wipe-requires
+wipe-requires c κs = search needs
+
+same-length : tie.Need-same-length
+same-length c = search needs
+
+returns : tie.Need-returns
+returns c = search on-incoming
+
+returns-2 : tie.Need-returns-2
+returns-2 c = search on-outgoing
+
+put-scrambled-requires : tie.Need-put-scrambled-requires
+put-scrambled-requires c κs = search needs
+
+same-length-2 : tie.Need-same-length-2
+same-length-2 c = search needs
+
+returns-3 : tie.Need-returns-3
+returns-3 c = search on-done
+
+pub scramble-spec : {M : Type 1} → statement M
+scramble-spec =
+    tie.close
+    (tie.spec
+    wipe-requires
+    same-length
+    returns
+    returns-2
+    put-scrambled-requires
+    same-length-2
+    returns-3)
