@@ -6,7 +6,6 @@ use mathlib.Core.List.{List, _++_}
 use Prim.Native.Nat.{ℕ, _-_}
 use native.Mathlib.Nat.{le-of-eq}
 use native.Mathlib.Omega.{arith}
-use borrow.Author.Tests.{eq-eqb}
 use borrow.Rule.Slice.PartMut.{putMid}
 use lib.Dec.{eqb}
 use lib.ListN.{length, take, drop, length-drop}
@@ -16,10 +15,7 @@ use Rattle.xor.specs.Lists.{added}
 use Rattle.scrambling.specs.Rule.{length-sequence}
 use Rattle.scrambling.specs.Scramble.{scrambled}
 use Rattle.scrambling.specs.Sequence.{sequence}
-
--- what a function leaves that changes nothing between different lengths, where they are the same
-same-lengths : (r : Bool) (m n : ℕ) (left new old : List ℕ) → (r ≡ eqb m n) × (left ≡ cond r new old) → m ≡ n → left ≡ new
-same-lengths r m n left new old (t, e) h = e ∙ ap (λ (b : Bool). cond b new old) (t ∙ eq-eqb m n h)
+use Rattle.scrambling.proofs.SameLengths.{same-lengths}
 
 -- a part that reaches to the end
 to-end : (s : List ℕ) → take (length s - 12) (drop 12 s) ≡ drop 12 s

@@ -33,19 +33,38 @@ fn exchange(from: &[u8], out: &mut [u8]) -> Answer
     if out.len() != SECTOR {
         return Answer::WrongOutgoing;
     }
-    exchange_pairs(from, out);
+    put_exchanged(from, out);
     Answer::Done
 }
 
-fn exchange_pairs(from: &[u8], out: &mut [u8])
+fn put_exchanged(from: &[u8], out: &mut [u8])
     requires { ⌜ (length (now from) ≡ 2352) × (length (now out) ≡ 2352) ⌝ }
     ensures { λ _. ⌜ now (out .exit) ≡ exchanged (now (from .entry)) ⌝ }
 {
+    let mut i: usize = 0;
+    while i < 98 {
+        let start = 24 * i;
+        let end = start + 24;
+        let frame = exchanged_frame(&from[start..end]);
+        outcome::copy(&frame, &mut out[start..end]);
+        i += 1;
+    }
+}
+
+// One frame, which nothing else can reach while it is made: so the compiler moves its bytes all at once.
+fn exchanged_frame(bytes: &[u8]) -> [u8; 24]
+    requires { ⌜ length (now bytes) ≡ 24 ⌝ }
+    ensures { λ r. ⌜ r ≡ exchanged (now (bytes .entry)) ⌝ }
+{
+    let mut frame = [0u8; 24];
     let mut pair: usize = 0;
-    while pair < SECTOR / 2 {
+    while pair < 12 {
         let i = 2 * pair;
-        out[i] = from[i + 1];
-        out[i + 1] = from[i];
+        let even = bytes[i];
+        let odd = bytes[i + 1];
+        frame[i] = odd;
+        frame[i + 1] = even;
         pair += 1;
     }
+    frame
 }

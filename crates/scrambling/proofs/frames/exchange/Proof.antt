@@ -1,4 +1,4 @@
--- `exchange` meets its contract: each way out is a law of `Entry`, whose premises are what the tests and `exchange_pairs` said.
+-- `exchange` meets its contract: each way out is a law of `Entry`, whose premises are what the tests and `put_exchanged` said.
 -- Assumes nothing.
 use borrow.Author.Needs.{needs}
 use Rattle.scrambling.specs.Entry.{on-incoming, on-outgoing, on-done}
@@ -17,8 +17,8 @@ returns c = search on-incoming
 returns-2 : tie.Need-returns-2
 returns-2 c = search on-outgoing
 
-exchange-pairs-requires : tie.Need-exchange-pairs-requires
-exchange-pairs-requires c κs = search needs
+put-exchanged-requires : tie.Need-put-exchanged-requires
+put-exchanged-requires c κs = search needs
 
 same-length-2 : tie.Need-same-length-2
 same-length-2 c = search needs
@@ -34,6 +34,6 @@ exchange-spec =
     same-length
     returns
     returns-2
-    exchange-pairs-requires
+    put-exchanged-requires
     same-length-2
     returns-3)
