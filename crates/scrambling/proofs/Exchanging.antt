@@ -7,12 +7,11 @@ use Prim.Native.Nat.{ℕ, _+_, _-_, _*_, _<_}
 use native.Mathlib.Omega.{arith}
 use borrow.Rule.Slice.PartMut.{putMid}
 use lib.Dec.{eqb}
-use lib.ListN.{length, getD, set, take, drop, length-drop}
-use lib.Seq.{length-take-le}
+use lib.ListN.{length, getD, set, take, drop}
 use Rattle.outcome.specs.Fill.{Filling, filling-long, filling-more, filling-part}
 use Rattle.outcome.specs.Part.{part-back}
 use Rattle.scrambling.specs.Exchange.{exchanged, length-exchanged, exchanged-at}
-use Rattle.scrambling.specs.Frames.{frame, f1-exchanged, frame-f1}
+use Rattle.scrambling.specs.Frames.{frame, length-frame, f1-exchanged, frame-f1}
 use Rattle.scrambling.proofs.SameLengths.{same-lengths}
 
 pub pair-more : (d s out : List ℕ) (k : ℕ) → Filling d (exchanged s) (2 * k) out → 2 * k + 1 < length s
@@ -30,28 +29,30 @@ pair-more d s out k f h =
     two-on : (k : ℕ) → 2 * k + 1 + 1 ≡ 2 * (k + 1)
     two-on k = omega arith
 
-module _ (d s out part made : List ℕ) (i : ℕ) (r : Bool) where
-  abbrev part-of : List ℕ → List ℕ
-  part-of l = take (24 * i + 24 - 24 * i) (drop (24 * i) l)
+-- what is lent from a frame's start to its end is the frame
+lent-frame : (i : ℕ) (l : List ℕ) → take (24 * i + 24 - 24 * i) (drop (24 * i) l) ≡ frame i l
+lent-frame i l =
+    let width : 24 * i + 24 - 24 * i ≡ 24 = omega arith in ap (λ (n : ℕ). take n (drop (24 * i) l)) width
 
-  pub frame-more : Filling d (exchanged s) (24 * i) out → length s ≡ 2352 → i < 98 → made ≡ exchanged (part-of s)
-      → (r ≡ eqb (length made) (length (part-of out))) × (part ≡ cond r made (part-of out))
+frame-exchanged : (s : List ℕ) (i : ℕ) → length s ≡ 2352 → i < 98 → exchanged (frame i s) ≡ frame i (exchanged s)
+frame-exchanged s i h l = sym (frame-f1 98 s i h l) ∙ ap (frame i) (f1-exchanged 98 s h)
+
+module _ (d s out part made : List ℕ) (i : ℕ) (r : Bool) where
+  abbrev lent : List ℕ → List ℕ
+  lent l = take (24 * i + 24 - 24 * i) (drop (24 * i) l)
+
+  -- a frame that is made of the lent bytes, and then copied into the lent part of the buffer
+  pub frame-more : Filling d (exchanged s) (24 * i) out → length s ≡ 2352 → i < 98 → made ≡ exchanged (lent s)
+      → (r ≡ eqb (length made) (length (lent out))) × (part ≡ cond r made (lent out))
       → Filling d (exchanged s) (24 * (i + 1)) (putMid (24 * i) (24 * i + 24 - 24 * i) out part)
   frame-more f h l m c =
-      let width : 24 * i + 24 - 24 * i ≡ 24 = omega arith in
       let long : length (exchanged s) ≡ length s = length-exchanged s in
-      let framed : part-of s ≡ frame i s = ap (λ (n : ℕ). take n (drop (24 * i) s)) width in
-      let made-long : length made ≡ 24
-      = ap length (m ∙ ap exchanged framed) ∙ length-exchanged (frame i s) ∙ length-take-le 24 (drop (24 * i) s) (omega (arith, length-drop (24 * i) s)) in
-      let lent-long : length (part-of out) ≡ 24
-      = ap (λ (n : ℕ). length (take n (drop (24 * i) out))) width
-      ∙ length-take-le 24 (drop (24 * i) out) (omega (arith, length-drop (24 * i) out, filling-long f, f .fits)) in
-      let right : part ≡ frame i (exchanged s)
-      = same-lengths r (length made) (length (part-of out)) part made (part-of out) c (made-long ∙ sym lent-long)
-      ∙ m
-      ∙ ap exchanged framed
-      ∙ sym (ap (frame i) (sym (f1-exchanged 98 s h)) ∙ frame-f1 98 s i h l) in
+      let right : made ≡ exchanged (frame i s) = m ∙ ap exchanged (lent-frame i s) in
+      let there : length made ≡ 24 = ap length right ∙ length-exchanged (frame i s) ∙ length-frame i s (omega arith) in
+      let here : length (lent out) ≡ 24 = ap length (lent-frame i out) ∙ length-frame i out (omega (arith, filling-long f, f .fits)) in
+      let copied : part ≡ made = same-lengths r (length made) (length (lent out)) part made (lent out) c (there ∙ sym here) in
+      let back = part-back (24 * i) (24 * i + 24) out part (omega arith) in
       let on : 24 * i + 24 ≡ 24 * (i + 1) = omega arith in
-      subst (λ (m : ℕ). Filling d (exchanged s) m (putMid (24 * i) (24 * i + 24 - 24 * i) out part)) on
-      (subst (Filling d (exchanged s) (24 * i + 24)) (sym (part-back (24 * i) (24 * i + 24) out part (omega arith)))
-      (filling-part f 24 part (omega arith) right))
+      subst (λ (n : ℕ). Filling d (exchanged s) n (putMid (24 * i) (24 * i + 24 - 24 * i) out part)) on
+      (subst (Filling d (exchanged s) (24 * i + 24)) (sym back)
+      (filling-part f 24 part (omega arith) (copied ∙ right ∙ frame-exchanged s i h l)))

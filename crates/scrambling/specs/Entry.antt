@@ -27,18 +27,18 @@ answering make incoming old = answered (says incoming old) 2352 (make incoming) 
 
 -- ---- the three ways out
 
-module _ (make : List ℕ → List ℕ) (incoming old new : List ℕ) where
-  pub on-incoming : (length incoming ≡ 2352 → ⊥) → new ≡ cleared 2352 old → outcome (refused 1 []) new ≡ answering make incoming old
+module _ (make : List ℕ → List ℕ) (incoming old : List ℕ) where
+  pub on-incoming : (new : List ℕ) → (length incoming ≡ 2352 → ⊥) → new ≡ cleared 2352 old → outcome (refused 1 []) new ≡ answering make incoming old
   unfolding answering
-  on-incoming h e = simp (ne-eqb (length incoming) 2352 h, e)
+  on-incoming new h e = simp (ne-eqb (length incoming) 2352 h, e)
 
   pub on-outgoing : length incoming ≡ 2352 → (length old ≡ 2352 → ⊥) → outcome (refused 2 []) old ≡ answering make incoming old
   unfolding answering
   on-outgoing l h = simp (eq-eqb (length incoming) 2352 l, ne-eqb (length old) 2352 h)
 
-  pub on-done : length incoming ≡ 2352 → length old ≡ 2352 → new ≡ make incoming → outcome (done []) new ≡ answering make incoming old
+  pub on-done : (new : List ℕ) → length incoming ≡ 2352 → length old ≡ 2352 → new ≡ make incoming → outcome (done []) new ≡ answering make incoming old
   unfolding answering
-  on-done l h e = simp (eq-eqb (length incoming) 2352 l, eq-eqb (length old) 2352 h, e)
+  on-done new l h e = simp (eq-eqb (length incoming) 2352 l, eq-eqb (length old) 2352 h, e)
 
 -- ---- laws
 

@@ -1,8 +1,8 @@
--- F1-frames (clause 16).
+-- F1-frames (clause 16): of any bytes that are placed in them, and of a scrambled Sector with its byte 0 in byte 0 of a frame.
 -- Assumes nothing.
 use mathlib.Core.Path.{_≡_, refl, sym, ap, subst, _∙_}
 use mathlib.Core.List.{List, [], _∷_, _++_}
-use Prim.Native.Nat.{ℕ, zero, suc, _+_, _*_, _/_, _%_, _<_}
+use Prim.Native.Nat.{ℕ, zero, suc, _+_, _*_, _/_, _%_, _≤_, _<_}
 use native.Mathlib.Omega.{arith}
 use lib.ListN.{length, getD, take, drop, take-append-drop, length-drop}
 use lib.Seq.{length-take-le, take-at, drop-append-add, drop-drop, getD-take, getD-drop, ext-getD}
@@ -29,7 +29,7 @@ byteIn frames i = getD (frame (i / 24) frames) (other (i % 24)) 0
 unfoldable pub bytesOf : ℕ → List ℕ → List ℕ
 bytesOf n frames = tabulated (byteIn frames) 0 (24 * n)
 
--- a scrambled Sector in 98 F1-frames, its byte 0 placed in byte 0 of a frame
+-- a scrambled Sector in 98 F1-frames: nothing is placed before its byte 0
 abbrev pub cut : List ℕ → List ℕ
 cut scrambled = f1Frames 98 scrambled
 
@@ -56,7 +56,7 @@ f1-exchanged (suc n) s h =
     ∙ sym (exchanged-append 12 (take 24 s) (drop 24 s) (length-take-le 24 s (omega arith)))
     ∙ ap exchanged (take-append-drop 24 s)
 
--- each byte stands at the other place of its pair, in frames and in all
+-- the other place of a pair in its frame is its other place among all the bytes
 in-exchanged : (s : List ℕ) (i : ℕ) → i / 2 * 2 + 1 < length s → byteIn s i ≡ getD (exchanged s) i 0
 in-exchanged s i h =
     getD-take 24 (drop (24 * (i / 24)) s) (other (i % 24)) 0 (omega arith)
@@ -64,6 +64,7 @@ in-exchanged s i h =
     ∙ ap (λ (j : ℕ). getD s j 0) (omega arith)
     ∙ sym (exchanged-at s i h)
 
+-- and so the bytes come out of all frames as of one
 pub of-exchanged : (n : ℕ) (s : List ℕ) → length s ≡ 24 * n → bytesOf n s ≡ exchanged s
 unfolding bytesOf
 of-exchanged n s h =
@@ -89,6 +90,9 @@ module _ (n : ℕ) (s : List ℕ) (whole : length s ≡ 24 * n) where
   pub stands : (i : ℕ) → i < 24 * n → getD (frame (i / 24) (f1Frames n s)) (other (i % 24)) 0 ≡ getD s i 0
   unfolding bytesOf
   stands i h = sym (tabulated-at (byteIn (f1Frames n s)) (24 * n) i h) ∙ ap (λ (t : List ℕ). getD t i 0) of-f1
+
+pub length-frame : (f : ℕ) (s : List ℕ) → 24 * f + 24 ≤ length s → length (frame f s) ≡ 24
+length-frame f s h = length-take-le 24 (drop (24 * f) s) (omega (arith, length-drop (24 * f) s))
 
 -- frame f of the F1-frames is frame f of the bytes, with its pairs exchanged
 pub frame-f1 : (n : ℕ) (s : List ℕ) (f : ℕ) → length s ≡ 24 * n → f < n → frame f (f1Frames n s) ≡ exchanged (frame f s)

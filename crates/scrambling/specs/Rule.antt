@@ -1,4 +1,4 @@
--- The bits of the sequence follow the rule of Annex B, and no others do.
+-- The bits of the sequence follow the rule of Annex B, and no others do; laws of its bytes.
 -- Assumes nothing.
 use mathlib.Core.Path.{_≡_, refl, sym, ap, ap₂, _∙_}
 use mathlib.Core.List.{List, [], _∷_}
@@ -34,6 +34,7 @@ next-last : (w : List ℕ) (n : ℕ) → length w ≡ suc n → getD (next w) n 
 unfolding next
 next-last w n h = getD-at (drop 1 w) ((getD w 0 0 + getD w 1 0) % 2) [] 0 n (omega (arith, length-drop 1 w))
 
+-- what the register holds are the bits from bit n on
 pub register-at : (j n : ℕ) → j < 15 → getD (register n) j 0 ≡ bit (n + j)
 unfolding bit register
 register-at zero n h = ap (λ (m : ℕ). getD (register m) 0 0) (sym (add-zero n))
@@ -99,8 +100,6 @@ module _ (f g : ℕ → ℕ) (p : Rule f) (q : Rule g) where
   -- two sequences of bits that follow the rule are the same
   pub rule-decides : (n : ℕ) → f n ≡ g n
   rule-decides n = ap f (sym (add-zero n)) ∙ alike n 0 (omega arith) ∙ ap g (add-zero n)
-
--- ---- bits and bytes
 
 -- a bit is 0 or 1
 pub bit-lt : (n : ℕ) → bit n < 2

@@ -6,7 +6,7 @@ use Prim.Native.Nat.{ℕ, zero, suc, _+_, _*_, _%_, _≤_}
 use lib.ListN.{getD, drop, replicate}
 use Rattle.outcome.specs.Table.{tabulated}
 
--- the bits f 0, f 1, .. follow the rule; `Register` shows that those of `bit`, and no others, do
+-- the bits f 0, f 1, .. follow the rule; the module `Rule` shows that those of `bit` below do, and no others
 pub record Rule (f : ℕ → ℕ) : Type 0 where
   pub first : f 0 ≡ 1
   pub zeros : (n : ℕ) → 1 ≤ n → n ≤ 14 → f n ≡ 0
@@ -21,6 +21,7 @@ unfoldable pub register : ℕ → List ℕ
 register zero = 1 ∷ replicate 14 0
 register (suc n) = next (register n)
 
+-- bit n of the sequence
 unfoldable pub bit : ℕ → ℕ
 bit n = getD (register n) 0 0
 

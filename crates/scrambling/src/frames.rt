@@ -37,6 +37,7 @@ fn exchange(from: &[u8], out: &mut [u8]) -> Answer
     Answer::Done
 }
 
+// Frame by frame, both buffers of the right length.
 fn put_exchanged(from: &[u8], out: &mut [u8])
     requires { ⌜ (length (now from) ≡ 2352) × (length (now out) ≡ 2352) ⌝ }
     ensures { λ _. ⌜ now (out .exit) ≡ exchanged (now (from .entry)) ⌝ }

@@ -3,7 +3,7 @@ ghost use mathlib.Core.Path.{_≡_};
 ghost use Rattle.scrambling.specs.Sequence.{sequence};
 
 // All of the table at once: indexing the constant would copy the whole of it for each byte.
-pub fn table() -> [u8; 2340]
+pub(crate) fn table() -> [u8; 2340]
     ensures { λ r. ⌜ r ≡ sequence ⌝ }
 {
     TABLE

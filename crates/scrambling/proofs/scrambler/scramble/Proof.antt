@@ -2,6 +2,7 @@
 -- Assumes nothing.
 use borrow.Author.Needs.{needs}
 use Rattle.scrambling.specs.Entry.{on-incoming, on-outgoing, on-done}
+use Rattle.scrambling.specs.Scramble.{scrambled}
 use Rattle.scrambling.proofs.scrambler.scramble.Statement.{statement}
 use Rattle.scrambling.proofs.scrambler.scramble.Tie as tie
 
@@ -12,10 +13,10 @@ same-length : tie.Need-same-length
 same-length c = search needs
 
 returns : tie.Need-returns
-returns c = search on-incoming
+returns c = on-incoming scrambled _ _ _ (c .before .before .before .before .if1 .taken) (c .before .before .wipe .ensures)
 
 returns-2 : tie.Need-returns-2
-returns-2 c = search on-outgoing
+returns-2 c = on-outgoing scrambled _ _ (c .before .if1 .left) (c .if2 .taken)
 
 put-scrambled-requires : tie.Need-put-scrambled-requires
 put-scrambled-requires c κs = search needs
@@ -24,7 +25,8 @@ same-length-2 : tie.Need-same-length-2
 same-length-2 c = search needs
 
 returns-3 : tie.Need-returns-3
-returns-3 c = search on-done
+returns-3 c =
+    let tests = c .before .before .before .before in on-done scrambled _ _ _ (tests .before .if1 .left) (tests .if2 .left) (c .before .before .put-scrambled .ensures)
 
 pub scramble-spec : {M : Type 1} → statement M
 scramble-spec =
