@@ -1,6 +1,6 @@
 -- The bytes of the EDC field are the digits of the register to the base 256, the lowest first.
 -- Assumes nothing.
-use mathlib.Core.Path.{_≡_, refl, sym, ap, ap₂, _∙_}
+use mathlib.Core.Path.{_≡_, refl, sym, ap, _∙_}
 use mathlib.Core.List.{List, [], _∷_, _++_}
 use Prim.Native.Nat.{ℕ, zero, suc, _+_, _*_, _/_, _%_, _^_, _<_, _≤_}
 use native.Mathlib.Nat.{div-div-eq-div-mul}
@@ -9,10 +9,9 @@ use lib.ListN.{length, take, drop, replicate, length-drop}
 use Rattle.edc.specs.Bits.{bits, number, bytesOf}
 use Rattle.edc.specs.Polynomial.{Coefficients}
 use Rattle.edc.specs.Edc.{remainder, edc}
-use Rattle.edc.specs.Coefficients.{coefs-drop}
+use Rattle.edc.specs.Coefficients.{coefs-drop, coefs-remainder, length-remainder}
 use Rattle.edc.specs.Numbers.{first-byte, first-byte-lt}
 use Rattle.edc.specs.Register.{steps}
-use Rattle.edc.specs.Division.{coefs-remainder, length-remainder}
 use Rattle.edc.specs.Laws.{zeros-number}
 
 abbrev digits : ℕ → ℕ → List ℕ
@@ -23,11 +22,13 @@ bytesOf-digits : (k : ℕ) (cs : List ℕ) → Coefficients cs → length cs ≡
 bytesOf-digits zero cs h l = refl
 bytesOf-digits (suc k) cs h l =
     let m : 8 ≤ length cs = omega arith in
-    let e : number cs ≡ number (drop 8 cs) * 256 + number (take 8 cs) = first-byte cs h m in
+    let e : number cs ≡ number (drop 8 cs) * 256 + number (take 8 cs) = first-byte cs m in
     let f : number (take 8 cs) < 256 = first-byte-lt cs h m in
     let p : number (take 8 cs) ≡ number cs % 256 = omega arith in
     let q : number (drop 8 cs) ≡ number cs / 256 = omega arith in
-    ap₂ {C = List ℕ} (λ (x : ℕ) (t : List ℕ). x ∷ t) p (bytesOf-digits k (drop 8 cs) (coefs-drop 8 cs h) (omega (arith, length-drop 8 cs)) ∙ ap (digits k) q)
+    let r : bytesOf k (drop 8 cs) ≡ digits k (number cs / 256)
+    = bytesOf-digits k (drop 8 cs) (coefs-drop 8 cs h) (omega (arith, length-drop 8 cs)) ∙ ap (digits k) q in
+    λ i. p i ∷ r i
 
 four-digits : (n : ℕ) → n < 2 ^ 32 → digits 4 n ≡ n % 256 ∷ n / 256 % 256 ∷ n / 65536 % 256 ∷ n / 16777216 ∷ []
 four-digits n h =

@@ -1,14 +1,14 @@
 -- The entries of the table, and 32 steps of the register by four of them.
 -- Assumes nothing.
-use mathlib.Core.Path.{_≡_, refl, sym, ap, ap₂, _∙_}
-use mathlib.Core.List.{List, [], _∷_, _++_}
-use Prim.Native.Nat.{ℕ, zero, suc, _+_, _*_, _/_, _%_, _^_, _<_, _≤_}
+use mathlib.Core.Path.{_≡_, sym, ap, ap₂, _∙_}
+use mathlib.Core.List.{List, _++_}
+use Prim.Native.Nat.{ℕ, _+_, _*_, _/_, _%_, _^_, _<_}
 use native.Mathlib.Nat.{div-div-eq-div-mul}
 use native.Mathlib.Omega.{arith}
 use lib.Bits.{bitXor, xor-shifted, xor-comm}
 use lib.ListN.{length, getD, List·getD-append}
 use lib.Seq.{getD-append-add}
-use Rattle.outcome.specs.Table.{tabulated, tabulated-at, length-tabulated}
+use Rattle.outcome.specs.Table.{tabulated-at, length-tabulated}
 use Rattle.xor.specs.Laws.{xor-assoc}
 use Rattle.edc.specs.Register.{steps, steps-add, steps-zeros, steps-join}
 use Rattle.edc.specs.Rows.{block, rows}
@@ -59,10 +59,15 @@ split-byte k n =
     ∙ ap (λ (x : ℕ). bitXor x (steps (8 + k) (n % 256))) (steps-join 8 k (n / 256 * 2 ^ 8) ∙ ap (steps k) (steps-zeros 8 (n / 256)))
     ∙ xor-comm (steps k (n / 256)) (steps (8 + k) (n % 256))
 
-pub run-entries : (n : ℕ) → n < 2 ^ 32
-    → bitXor (bitXor (bitXor (getD rows (768 + n % 256) 0) (getD rows (512 + n / 256 % 256) 0)) (getD rows (256 + n / 65536 % 256) 0)) (getD rows (n / 16777216) 0)
-    ≡ steps 32 n
-run-entries n h =
+-- the entries of a number's four bytes in a table, added
+abbrev pub entries : List ℕ → ℕ → ℕ
+entries t n =
+    bitXor
+    (bitXor (bitXor (getD t (768 + n % 256) 0) (getD t (512 + n / 256 % 256) 0)) (getD t (256 + n / 65536 % 256) 0))
+    (getD t (n / 16777216) 0)
+
+pub advance-entries : (n : ℕ) → n < 2 ^ 32 → entries rows n ≡ steps 32 n
+advance-entries n h =
     let p : n / 256 / 256 ≡ n / 65536 = div-div-eq-div-mul n 256 256 in
     let q : n / 65536 / 256 ≡ n / 16777216 = div-div-eq-div-mul n 65536 256 in
     let a : ℕ = steps 32 (n % 256) in

@@ -2,8 +2,8 @@
 -- Assumes nothing.
 use mathlib.Core.Path.{_≡_, refl, sym, ap, ap₂, _∙_}
 use mathlib.Core.List.{List, [], _∷_, _++_, map}
-use Prim.Native.Nat.{ℕ, zero, suc, _+_, _*_, _^_, _<_, _≤_}
-use native.Mathlib.Nat.{suc-add, add-suc, add-zero, zero-add, one-mul, pow-suc, le-refl}
+use Prim.Native.Nat.{ℕ, zero, suc, _+_, _^_, _≤_}
+use native.Mathlib.Nat.{suc-add, add-suc, add-zero, zero-add, one-mul, pow-suc}
 use native.Mathlib.Omega.{arith}
 use lib.Bits.{bitXor, xor-shifted}
 use Rattle.outcome.specs.Table.{tabulated}
@@ -11,8 +11,9 @@ use Rattle.outcome.specs.Table.{tabulated}
 pub tabulated-append : (f : ℕ → ℕ) (i m n : ℕ) → tabulated f i (m + n) ≡ tabulated f i m ++ tabulated f (i + m) n
 tabulated-append f i zero n = ap₂ (λ (x y : ℕ). tabulated f x y) (sym (add-zero i)) (zero-add n)
 tabulated-append f i (suc m) n =
+    let e : suc i + m ≡ i + suc m = suc-add i m ∙ sym (add-suc i m) in
     ap (tabulated f i) (suc-add m n)
-    ∙ ap (λ (l : List ℕ). f i ∷ l) (tabulated-append f (suc i) m n ∙ ap (λ (k : ℕ). tabulated f (suc i) m ++ tabulated f k n) (suc-add i m ∙ sym (add-suc i m)))
+    ∙ ap (λ (l : List ℕ). f i ∷ l) (tabulated-append f (suc i) m n ∙ ap (λ (k : ℕ). tabulated f (suc i) m ++ tabulated f k n) e)
 
 module _ (f : ℕ → ℕ) where
   unfoldable pub spread : ℕ → List ℕ
@@ -26,14 +27,19 @@ module _ (f : ℕ → ℕ) where
     above j i (suc n) h =
         let e : bitXor (2 ^ j) i ≡ 2 ^ j + i
         = ap (λ (x : ℕ). bitXor x i) (sym (one-mul (2 ^ j))) ∙ xor-shifted 1 j i (omega arith) ∙ ap (λ (x : ℕ). x + i) (one-mul (2 ^ j)) in
-        ap₂ {C = List ℕ} (λ (x : ℕ) (l : List ℕ). x ∷ l) (sym (linear (2 ^ j) i) ∙ ap f e)
-        (above j (suc i) n (omega arith) ∙ ap (λ (k : ℕ). tabulated f k n) (add-suc (2 ^ j) i))
+        let p : bitXor (f (2 ^ j)) (f i) ≡ f (2 ^ j + i) = sym (linear (2 ^ j) i) ∙ ap f e in
+        let q : map (bitXor (f (2 ^ j))) (tabulated f (suc i) n) ≡ tabulated f (suc (2 ^ j + i)) n
+        = above j (suc i) n (omega arith) ∙ ap (λ (k : ℕ). tabulated f k n) (add-suc (2 ^ j) i) in
+        λ t. p t ∷ q t
 
     pub spread-is : (j : ℕ) → spread j ≡ tabulated f 0 (2 ^ j)
     unfolding spread
     spread-is zero = refl
     spread-is (suc j) =
-        let e : 2 ^ suc j ≡ 2 ^ j + 2 ^ j = pow-suc 2 j ∙ omega arith in
-        ap (λ (l : List ℕ). l ++ map (bitXor (f (2 ^ j))) l) (spread-is j)
-        ∙ ap (λ (l : List ℕ). tabulated f 0 (2 ^ j) ++ l) (above j 0 (2 ^ j) (omega arith) ∙ ap (λ (k : ℕ). tabulated f k (2 ^ j)) (add-zero (2 ^ j) ∙ sym (zero-add (2 ^ j))))
-        ∙ sym (ap (tabulated f 0) e ∙ tabulated-append f 0 (2 ^ j) (2 ^ j))
+        let m : ℕ = 2 ^ j in
+        let e : 2 ^ suc j ≡ m + m = pow-suc 2 j ∙ omega arith in
+        let g : map (bitXor (f m)) (tabulated f 0 m) ≡ tabulated f (0 + m) m
+        = above j 0 m (omega arith) ∙ ap (λ (k : ℕ). tabulated f k m) (add-zero m ∙ sym (zero-add m)) in
+        ap (λ (l : List ℕ). l ++ map (bitXor (f m)) l) (spread-is j)
+        ∙ ap (λ (l : List ℕ). tabulated f 0 m ++ l) g
+        ∙ sym (ap (tabulated f 0) e ∙ tabulated-append f 0 m m)

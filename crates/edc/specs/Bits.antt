@@ -1,4 +1,4 @@
--- The bits of bytes in the order of clause 14.3: the least significant bit of a byte is first.
+-- The bits of bytes in the order of clause 14.3: the least significant bit of a byte is used first.
 -- Assumes nothing.
 use mathlib.Core.List.{List, [], _∷_, _++_}
 use Prim.Native.Nat.{ℕ, zero, suc, _+_, _*_, _/_, _%_}
@@ -9,7 +9,7 @@ abbrev pub bitsOf : ℕ → ℕ → List ℕ
 bitsOf zero b = []
 bitsOf (suc n) b = b % 2 ∷ bitsOf n (b / 2)
 
--- the bits of bytes, one byte after the other
+-- the bits of bytes, byte after byte
 abbrev pub bits : List ℕ → List ℕ
 bits [] = []
 bits (b ∷ bytes) = bitsOf 8 b ++ bits bytes
@@ -19,7 +19,7 @@ unfoldable pub number : List ℕ → ℕ
 number [] = 0
 number (c ∷ cs) = c + number cs * 2
 
--- n bytes that have these bits, eight each
+-- the n bytes that have these bits, eight each
 abbrev pub bytesOf : ℕ → List ℕ → List ℕ
 bytesOf zero cs = []
 bytesOf (suc n) cs = number (take 8 cs) ∷ bytesOf n (drop 8 cs)

@@ -1,14 +1,15 @@
--- Lengths of the lists of Bits and Polynomial, and that their elements are 0 or 1.
+-- How long the lists of bits and coefficients are, and that their elements are 0 or 1.
 -- Assumes nothing.
 use mathlib.Core.Path.{_≡_, refl, sym, ap, subst, _∙_}
 use mathlib.Core.List.{List, [], _∷_, _++_, append-assoc}
-use Prim.Native.Nat.{ℕ, zero, suc, _+_, _-_, _*_, _/_, _%_, _<_}
+use Prim.Native.Nat.{ℕ, zero, suc, _+_, _-_, _*_, _/_, _<_}
 use native.Mathlib.Nat.{zero-lt-suc, suc-inj, suc-ne-zero}
 use native.Mathlib.Omega.{arith}
-use lib.ListN.{length, take, drop, replicate, length-append, length-replicate}
+use lib.ListN.{length, take, drop, getD, replicate, length-append, length-drop, length-replicate}
 use Rattle.xor.specs.Laws.{bit-lt}
 use Rattle.edc.specs.Bits.{bitsOf, bits}
 use Rattle.edc.specs.Polynomial.{Coefficients, plus, scaled, product, divisor, divisor-product, factor₁, factor₂}
+use Rattle.edc.specs.Edc.{brought, divided, remainder}
 
 -- ---- lists
 
@@ -87,3 +88,39 @@ length-scaled q (c ∷ cs) = ap suc (length-scaled q cs)
 pub length-divisor : length divisor ≡ 33
 unfolding divisor
 length-divisor = refl
+
+-- ---- a remainder has 32 coefficients
+
+pub coefs-brought : (r : List ℕ) (c : ℕ) → Coefficients (brought r c)
+unfolding brought
+coefs-brought r c =
+    coefs-drop 1 (plus (r ++ (c ∷ [])) (scaled (getD r 0 0) divisor)) (coefs-plus (r ++ (c ∷ [])) (scaled (getD r 0 0) divisor))
+
+pub length-brought : (r : List ℕ) (c : ℕ) → length r ≡ 32 → length (brought r c) ≡ 32
+unfolding brought
+length-brought r c l =
+    let m : length (r ++ (c ∷ [])) ≡ 33 = omega (arith, length-append r (c ∷ [])) in
+    let n : length (scaled (getD r 0 0) divisor) ≡ 33 = length-scaled (getD r 0 0) divisor ∙ length-divisor in
+    omega (
+      arith,
+      length-drop 1 (plus (r ++ (c ∷ [])) (scaled (getD r 0 0) divisor)),
+      length-plus (r ++ (c ∷ [])) (scaled (getD r 0 0) divisor) (m ∙ sym n),
+    )
+
+pub coefs-divided : (r cs : List ℕ) → Coefficients r → Coefficients (divided r cs)
+unfolding divided
+coefs-divided r [] h = h
+coefs-divided r (c ∷ cs) h = coefs-divided (brought r c) cs (coefs-brought r c)
+
+pub length-divided : (r cs : List ℕ) → length r ≡ 32 → length (divided r cs) ≡ 32
+unfolding divided
+length-divided r [] l = l
+length-divided r (c ∷ cs) l = length-divided (brought r c) cs (length-brought r c l)
+
+pub coefs-remainder : (cs : List ℕ) → Coefficients (remainder cs)
+unfolding remainder
+coefs-remainder cs = coefs-divided (replicate 32 0) cs (coefs-zeros 32)
+
+pub length-remainder : (cs : List ℕ) → length (remainder cs) ≡ 32
+unfolding remainder
+length-remainder cs = length-divided (replicate 32 0) cs (length-replicate {A = ℕ} 32 0)

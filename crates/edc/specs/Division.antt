@@ -1,55 +1,20 @@
--- The division of lists and the register agree; from that, what the last 32 coefficients do to the remainder.
+-- The division of lists and the register agree: a line of the one is a step of the other.
 -- Assumes nothing.
 use mathlib.Core.Path.{_≡_, refl, sym, ap, ap₂, _∙_, subst}
-use mathlib.Core.List.{List, [], _∷_, _++_, append-nil, append-assoc}
-use Prim.Native.Nat.{ℕ, zero, suc, _+_, _-_, _*_, _/_, _%_, _^_, _<_, _≤_}
+use mathlib.Core.List.{List, [], _∷_, _++_}
+use Prim.Native.Nat.{ℕ, _+_, _-_, _*_, _/_, _%_, _^_, _<_, _≤_}
 use native.Mathlib.Nat.{zero-add, mul-assoc}
 use lib.Pow.{pow-add}
 use native.Mathlib.Omega.{arith}
-use lib.Bits.{bitXor, xor-block, xor-zero-r, xor-comm}
-use lib.ListN.{length, drop, getD, replicate, length-append, length-drop, length-replicate}
-use Rattle.edc.specs.Bits.{bitsOf, bits, number}
+use lib.Bits.{bitXor, xor-block, xor-zero-r}
+use lib.ListN.{length, drop, replicate, length-append, length-replicate}
+use Rattle.edc.specs.Bits.{number}
 use Rattle.edc.specs.Polynomial.{Coefficients, plus, scaled, divisor}
 use Rattle.edc.specs.Edc.{brought, divided, remainder}
-use Rattle.edc.specs.Coefficients.{coefs-append, coefs-drop, coefs-zeros, coefs-plus, coefs-scaled, coefs-bitsOf, coefs-bits, coefs-divisor, length-divisor, length-plus, length-scaled, length-bitsOf, bits-append}
-use Rattle.edc.specs.Numbers.{number-zeros, number-append, number-lt, number-plus, number-scaled, number-bitsOf, number-inj}
-use Rattle.edc.specs.Register.{feedback, step, steps, steps-split, steps-zeros, steps-join}
-
--- ---- a remainder has 32 coefficients
-
-pub coefs-brought : (r : List ℕ) (c : ℕ) → Coefficients (brought r c)
-unfolding brought
-coefs-brought r c =
-    coefs-drop 1 (plus (r ++ (c ∷ [])) (scaled (getD r 0 0) divisor)) (coefs-plus (r ++ (c ∷ [])) (scaled (getD r 0 0) divisor))
-
-pub length-brought : (r : List ℕ) (c : ℕ) → length r ≡ 32 → length (brought r c) ≡ 32
-unfolding brought
-length-brought r c l =
-    let m : length (r ++ (c ∷ [])) ≡ 33 = omega (arith, length-append r (c ∷ [])) in
-    let n : length (scaled (getD r 0 0) divisor) ≡ 33 = length-scaled (getD r 0 0) divisor ∙ length-divisor in
-    omega (
-      arith,
-      length-drop 1 (plus (r ++ (c ∷ [])) (scaled (getD r 0 0) divisor)),
-      length-plus (r ++ (c ∷ [])) (scaled (getD r 0 0) divisor) (m ∙ sym n),
-    )
-
-pub coefs-divided : (r cs : List ℕ) → Coefficients r → Coefficients (divided r cs)
-unfolding divided
-coefs-divided r [] h = h
-coefs-divided r (c ∷ cs) h = coefs-divided (brought r c) cs (coefs-brought r c)
-
-pub length-divided : (r cs : List ℕ) → length r ≡ 32 → length (divided r cs) ≡ 32
-unfolding divided
-length-divided r [] l = l
-length-divided r (c ∷ cs) l = length-divided (brought r c) cs (length-brought r c l)
-
-pub coefs-remainder : (cs : List ℕ) → Coefficients (remainder cs)
-unfolding remainder
-coefs-remainder cs = coefs-divided (replicate 32 0) cs (coefs-zeros 32)
-
-pub length-remainder : (cs : List ℕ) → length (remainder cs) ≡ 32
-unfolding remainder
-length-remainder cs = length-divided (replicate 32 0) cs (length-replicate {A = ℕ} 32 0)
+use Rattle.edc.specs.Coefficients.{coefs-append, coefs-drop, coefs-zeros, coefs-scaled, coefs-divisor, length-scaled}
+use Rattle.edc.specs.Coefficients.{coefs-brought, coefs-remainder, length-brought, length-remainder}
+use Rattle.edc.specs.Numbers.{number-zeros, number-append, number-lt, number-plus, number-scaled, number-inj}
+use Rattle.edc.specs.Register.{feedback, step, steps, steps-zeros, steps-join, steps-split}
 
 -- ---- one line of the division is one step of the register
 
@@ -136,8 +101,18 @@ pub remainder-append : (cs ds : List ℕ) → Coefficients ds
     → number (remainder (cs ++ ds)) ≡ steps (length ds) (number (remainder cs) + number ds * 2 ^ 32)
 unfolding remainder
 remainder-append cs ds k =
-    ap number (divided-append (replicate 32 0) cs ds)
-    ∙ divided-steps (divided (replicate 32 0) cs) ds (coefs-divided (replicate 32 0) cs (coefs-zeros 32)) k (length-divided (replicate 32 0) cs (length-replicate {A = ℕ} 32 0))
+    ap number (divided-append (replicate 32 0) cs ds) ∙ divided-steps (remainder cs) ds (coefs-remainder cs) k (length-remainder cs)
+
+pub remainder-lt : (cs : List ℕ) → number (remainder cs) < 2 ^ 32
+remainder-lt cs = subst (λ (n : ℕ). number (remainder cs) < 2 ^ n) (length-remainder cs) (number-lt (remainder cs) (coefs-remainder cs))
+
+-- 32 more are added as they stand to what 32 steps make of the remainder
+pub remainder-word : (cs ds : List ℕ) → Coefficients ds → length ds ≡ 32
+    → number (remainder (cs ++ ds)) ≡ bitXor (number ds) (steps 32 (number (remainder cs)))
+remainder-word cs ds k l =
+    let r : ℕ = number (remainder cs) in
+    let e : r + number ds * 2 ^ 32 ≡ number ds * 2 ^ 32 + r = omega arith in
+    remainder-append cs ds k ∙ ap₂ steps l e ∙ steps-split 32 (number ds) r (remainder-lt cs)
 
 -- at most 32 coefficients come down as they are
 pub remainder-short : (cs : List ℕ) → Coefficients cs → length cs ≤ 32 → remainder cs ≡ replicate (32 - length cs) 0 ++ cs
@@ -147,10 +122,12 @@ remainder-short cs h l =
     let zs : List ℕ = replicate n 0 in
     let m : length zs ≡ n = length-replicate {A = ℕ} n 0 in
     let e : n + length cs ≡ 32 = omega arith in
+    let f : number cs * 2 ^ (n + length cs) ≡ number cs * 2 ^ n * 2 ^ length cs
+    = ap (λ (k : ℕ). number cs * k) (pow-add 2 n (length cs)) ∙ sym (mul-assoc (number cs) (2 ^ n) (2 ^ length cs)) in
     number-inj (remainder cs) (zs ++ cs) (coefs-remainder cs) (coefs-append zs cs (coefs-zeros n) h)
     (length-remainder cs ∙ sym (length-append zs cs ∙ ap (λ (k : ℕ). k + length cs) m ∙ e))
     (divided-steps (replicate 32 0) cs (coefs-zeros 32) h (length-replicate {A = ℕ} 32 0)
     ∙ ap₂ (λ (z k : ℕ). steps (length cs) (z + number cs * 2 ^ k)) (number-zeros 32) (sym e)
-    ∙ ap (steps (length cs)) (zero-add (number cs * 2 ^ (n + length cs)) ∙ ap (λ (k : ℕ). number cs * k) (pow-add 2 n (length cs)) ∙ sym (mul-assoc (number cs) (2 ^ n) (2 ^ length cs)))
+    ∙ ap (steps (length cs)) (zero-add (number cs * 2 ^ (n + length cs)) ∙ f)
     ∙ steps-zeros (length cs) (number cs * 2 ^ n)
     ∙ sym (number-append zs cs ∙ ap₂ (λ (z k : ℕ). z + number cs * 2 ^ k) (number-zeros n) m ∙ zero-add (number cs * 2 ^ n)))

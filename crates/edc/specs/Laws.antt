@@ -1,20 +1,21 @@
 -- The EDC field: with the four bytes of `edc` the polynomial is divisible, and with no others.
 -- Assumes nothing.
-use mathlib.Core.Path.{_≡_, refl, sym, ap, ap₂, _∙_, subst}
+use mathlib.Core.Path.{_≡_, refl, sym, ap, ap₂, _∙_}
 use mathlib.Core.List.{List, [], _∷_, _++_}
-use Prim.Native.Nat.{ℕ, zero, suc, _+_, _-_, _*_, _%_, _^_, _<_, _≤_}
-use native.Mathlib.Nat.{zero-add, suc-inj, suc-ne-zero, mul-assoc}
+use Prim.Native.Nat.{ℕ, zero, suc, _+_, _*_, _%_, _<_}
+use native.Mathlib.Nat.{suc-inj, suc-ne-zero}
 use native.Mathlib.Omega.{arith}
-use lib.Bits.{bitXor, xor-self, xor-zero-l}
-use lib.ListN.{length, replicate, drop, take, length-append, length-replicate, length-drop}
+use lib.Bits.{bitXor, xor-zero-l}
+use lib.ListN.{length, replicate, drop, take, length-replicate, length-drop}
 use Rattle.outcome.specs.Bytes.{Bytes, bytes-nil, bytes-cons}
-use Rattle.edc.specs.Bits.{bitsOf, bits, number, bytesOf}
+use Rattle.edc.specs.Bits.{bits, number, bytesOf}
 use Rattle.edc.specs.Polynomial.{Coefficients, plus}
 use Rattle.edc.specs.Edc.{remainder, edc, Divisible}
-use Rattle.edc.specs.Coefficients.{coefs-append, coefs-zeros, coefs-drop, coefs-bits, coefs-plus, length-bits, length-plus, bits-append}
-use Rattle.edc.specs.Numbers.{number-zeros, number-append, number-lt, number-plus, number-inj, first-byte-lt, bits-bytesOf, bytesOf-bits}
-use Rattle.edc.specs.Register.{steps, steps-split, steps-zeros}
-use Rattle.edc.specs.Division.{coefs-remainder, length-remainder, divided-steps, remainder-append}
+use Rattle.edc.specs.Coefficients.{coefs-zeros, coefs-drop, coefs-bits, coefs-plus, coefs-remainder}
+use Rattle.edc.specs.Coefficients.{length-bits, length-plus, length-remainder, bits-append}
+use Rattle.edc.specs.Numbers.{number-zeros, number-plus, number-inj, first-byte-lt, bits-bytesOf, bytesOf-bits}
+use Rattle.edc.specs.Register.{steps}
+use Rattle.edc.specs.Division.{remainder-word}
 
 -- ---- sums of polynomials
 
@@ -22,7 +23,7 @@ plus-self : (cs : List ℕ) → plus cs cs ≡ replicate (length cs) 0
 plus-self [] = refl
 plus-self (c ∷ cs) =
     let p : (c + c) % 2 ≡ 0 = omega arith in
-    ap₂ {C = List ℕ} (λ (x : ℕ) (l : List ℕ). x ∷ l) p (plus-self cs)
+    λ i. p i ∷ plus-self cs i
 
 plus-equal : (cs ds : List ℕ) → Coefficients cs → Coefficients ds → length cs ≡ length ds → plus cs ds ≡ replicate (length cs) 0 → cs ≡ ds
 plus-equal [] [] h k e z = refl
@@ -33,21 +34,14 @@ plus-equal (c ∷ cs) (d ∷ ds) h k e z =
     let hd : d < 2 = k .0 in
     let p : (c + d) % 2 ≡ 0 = cc in
     let q : c ≡ d = omega arith in
-    ap₂ {C = List ℕ} (λ (x : ℕ) (l : List ℕ). x ∷ l) q (plus-equal cs ds (h .1) (k .1) (suc-inj e) (cc))
+    let r : cs ≡ ds = plus-equal cs ds (h .1) (k .1) (suc-inj e) (cc) in
+    λ i. q i ∷ r i
 
 -- ---- the last 32 coefficients are added to what is left with zeros in their place
 
-module _ (cs t : List ℕ) (h : Coefficients t) (l : length t ≡ 32) where
-  last-number : number (remainder (cs ++ t)) ≡ bitXor (number t) (steps 32 (number (remainder cs)))
-  last-number =
-      let r : ℕ = number (remainder cs) in
-      let b : r < 2 ^ 32 = subst (λ (n : ℕ). r < 2 ^ n) (length-remainder cs) (number-lt (remainder cs) (coefs-remainder cs)) in
-      let e : r + number t * 2 ^ 32 ≡ number t * 2 ^ 32 + r = omega arith in
-      remainder-append cs t h ∙ ap₂ steps l e ∙ steps-split 32 (number t) r b
-
 pub zeros-number : (cs : List ℕ) → number (remainder (cs ++ replicate 32 0)) ≡ steps 32 (number (remainder cs))
 zeros-number cs =
-    last-number cs (replicate 32 0) (coefs-zeros 32) (length-replicate {A = ℕ} 32 0)
+    remainder-word cs (replicate 32 0) (coefs-zeros 32) (length-replicate {A = ℕ} 32 0)
     ∙ ap (λ (x : ℕ). bitXor x (steps 32 (number (remainder cs)))) (number-zeros 32)
     ∙ xor-zero-l (steps 32 (number (remainder cs)))
 
@@ -57,7 +51,7 @@ remainder-last cs t h l =
     let e : length t ≡ length z = l ∙ sym (length-remainder (cs ++ replicate 32 0)) in
     number-inj (remainder (cs ++ t)) (plus t z) (coefs-remainder (cs ++ t)) (coefs-plus t z)
     (length-remainder (cs ++ t) ∙ sym (length-plus t z e ∙ l))
-    (last-number cs t h l
+    (remainder-word cs t h l
     ∙ ap (bitXor (number t)) (sym (zeros-number cs))
     ∙ sym (number-plus t z h (coefs-remainder (cs ++ replicate 32 0)) e))
 

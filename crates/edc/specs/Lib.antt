@@ -5,7 +5,9 @@ pub mod Coefficients
 pub mod Numbers
 pub mod Register
 pub mod Division
+pub mod Product
 pub mod Multiple
 pub mod Laws
 pub mod Zero
 pub mod Rows
+pub mod Vector

@@ -1,64 +1,28 @@
--- Nothing is left of a polynomial exactly where it is the divisor times some polynomial.
+-- Nothing is left of a polynomial exactly where it is the divisor times some polynomial. A polynomial with fewer coefficients than
+-- the remainder is its own remainder (`remainder-short` of Division), so that there only zeros leave nothing.
 -- Assumes nothing.
 use mathlib.Core.Path.{_≡_, refl, sym, ap, ap₂, _∙_}
-use mathlib.Core.List.{List, [], _∷_, _++_}
+use mathlib.Core.List.{List, [], _∷_}
 use Prim.Native.Nat.{ℕ, zero, suc, _+_, _-_, _*_, _/_, _%_, _^_, _<_, _≤_}
-use native.Mathlib.Nat.{zero-lt-suc, mul-one, zero-mul, mul-assoc, pow-suc, div-add-mod', add-zero, zero-add}
+use native.Mathlib.Nat.{mul-one, zero-mul, mul-assoc, pow-suc}
 use native.Mathlib.Omega.{arith}
-use lib.Bits.{bitXor, differ, xor-zero-r, xor-comm, xor-step}
-use lib.ListN.{length, replicate, length-append, length-replicate}
+use lib.Bits.{bitXor, differ, xor-zero-r, xor-comm}
+use lib.ListN.{length, replicate}
 use Rattle.xor.specs.Laws.{xor-half, xor-odd, xor-assoc, xor-twice, xor-double, bit-lt}
-use Rattle.edc.specs.Bits.{number}
-use Rattle.edc.specs.Polynomial.{Coefficients, plus, scaled, product, divisor}
-use Rattle.edc.specs.Edc.{remainder}
-use Rattle.edc.specs.Coefficients.{coefs-append, coefs-zeros, coefs-scaled, coefs-product, coefs-divisor, length-divisor, length-plus, length-scaled}
-use Rattle.edc.specs.Numbers.{number-zeros, number-tail, number-plus, number-scaled, number-inj}
+use Rattle.edc.specs.Bits.{bits, number}
+use Rattle.edc.specs.Polynomial.{Coefficients, product, divisor}
+use Rattle.edc.specs.Edc.{remainder, Divisible}
+use Rattle.edc.specs.Coefficients.{coefs-zeros, coefs-bits, coefs-product, coefs-remainder, length-bits, length-remainder}
+use Rattle.edc.specs.Numbers.{number-zeros, number-inj}
 use Rattle.edc.specs.Register.{feedback, step, steps}
-use Rattle.edc.specs.Division.{coefs-remainder, length-remainder, remainder-steps}
+use Rattle.edc.specs.Division.{remainder-steps}
+use Rattle.edc.specs.Product.{length-product, number-product}
 
 -- the divisor times a polynomial
 pub record Multiple (cs : List ℕ) : Type 0 where
   pub quotient : List ℕ
   pub coefs : Coefficients quotient
   pub is : cs ≡ product divisor quotient
-
--- ---- a product as a number
-
-module _ (q : ℕ) (qs : List ℕ) where
-  length-part : length (scaled q divisor ++ replicate (length qs) 0) ≡ 33 + length qs
-  length-part =
-      length-append (scaled q divisor) (replicate (length qs) 0)
-      ∙ ap₂ (λ (x y : ℕ). x + y) (length-scaled q divisor ∙ length-divisor) (length-replicate {A = ℕ} (length qs) 0)
-
-length-product : (qs : List ℕ) → length (product divisor qs) ≡ 32 + length qs
-length-product [] = length-replicate {A = ℕ} (length divisor - 1) 0 ∙ ap (λ (n : ℕ). n - 1) length-divisor
-length-product (q ∷ qs) =
-    let e : length (product divisor qs) ≡ 32 + length qs = length-product qs in
-    length-plus (scaled q divisor ++ replicate (length qs) 0) (0 ∷ product divisor qs) (omega (arith, length-part q qs))
-    ∙ length-part q qs
-    ∙ omega arith
-
-number-divisor : number divisor ≡ 1 + feedback * 2
-unfolding number divisor
-number-divisor = refl
-
-number-part : (q n : ℕ) → number (scaled q divisor ++ replicate n 0) ≡ q + q * feedback * 2
-number-part q n =
-    let e : q * (1 + feedback * 2) ≡ q + q * feedback * 2 = omega arith in
-    number-tail (scaled q divisor) n ∙ number-scaled q divisor ∙ ap (λ (x : ℕ). q * x) number-divisor ∙ e
-
-number-times-x : (cs : List ℕ) → number (0 ∷ cs) ≡ number cs * 2
-unfolding number
-number-times-x cs = zero-add (number cs * 2)
-
-number-product : (q : ℕ) (qs : List ℕ) → q < 2
-    → number (product divisor (q ∷ qs)) ≡ bitXor (q + q * feedback * 2) (number (product divisor qs) * 2)
-number-product q qs h =
-    number-plus (scaled q divisor ++ replicate (length qs) 0) (0 ∷ product divisor qs)
-    (coefs-append (scaled q divisor) (replicate (length qs) 0) (coefs-scaled q divisor h coefs-divisor) (coefs-zeros (length qs)))
-    (zero-lt-suc 1, coefs-product divisor qs)
-    (omega (arith, length-part q qs, length-product qs))
-    ∙ ap₂ bitXor (number-part q (length qs)) (number-times-x (product divisor qs))
 
 -- ---- of a multiple nothing is left
 
@@ -104,7 +68,7 @@ product-zero cs m =
     ∙ steps-product (m .quotient) (m .coefs)
     ∙ sym (number-zeros 32))
 
--- ---- division with remainder
+-- ---- where nothing is left there is a multiple
 
 -- the quotient's k coefficients: those that the division drops
 quotientOf : ℕ → ℕ → List ℕ
@@ -141,7 +105,9 @@ steps-whole (suc k) n =
     let m : ℕ = number (product divisor (quotientOf k (step n))) in
     let t : ℕ = steps k (step n) * 2 ^ k in
     let a : ℕ = n % 2 + n % 2 * feedback * 2 in
-    ap₂ bitXor (number-product (n % 2) (quotientOf k (step n)) (bit-lt n)) (ap (λ (x : ℕ). steps k (step n) * x) (pow-suc 2 k) ∙ sym (mul-assoc (steps k (step n)) (2 ^ k) 2))
+    let e : steps k (step n) * 2 ^ suc k ≡ t * 2
+    = ap (λ (x : ℕ). steps k (step n) * x) (pow-suc 2 k) ∙ sym (mul-assoc (steps k (step n)) (2 ^ k) 2) in
+    ap₂ bitXor (number-product (n % 2) (quotientOf k (step n)) (bit-lt n)) e
     ∙ xor-assoc a (m * 2) (t * 2)
     ∙ ap (bitXor a) (sym (xor-double m t) ∙ ap (λ (x : ℕ). x * 2) (steps-whole k (step n)))
     ∙ step-undone n
@@ -164,3 +130,11 @@ zero-product cs h l z =
           ∙ ap (bitXor (number (product divisor q))) (zero-mul (2 ^ k))
           ∙ xor-zero-r (number (product divisor q)));
     }
+
+-- ---- the same of bytes: four or more are divisible exactly where they are a multiple
+
+pub divisible-multiple : (bytes : List ℕ) → 4 ≤ length bytes → Divisible bytes → Multiple (bits bytes)
+divisible-multiple bytes l z = zero-product (bits bytes) (coefs-bits bytes) (omega (arith, length-bits bytes)) z
+
+pub multiple-divisible : (bytes : List ℕ) → Multiple (bits bytes) → Divisible bytes
+multiple-divisible bytes m = product-zero (bits bytes) m

@@ -6,7 +6,7 @@ use Prim.Native.Nat.{ℕ, zero, suc, _+_, _-_, _*_, _/_, _%_, _^_, _<_, _≤_}
 use native.Mathlib.Nat.{zero-lt-suc, suc-inj, suc-ne-zero, pow-suc, mul-zero, mul-add, mul-assoc}
 use native.Mathlib.Omega.{arith}
 use lib.Bits.{bitXor, differ, xor-step}
-use lib.ListN.{length, take, drop, replicate, length-take, length-drop, take-append-drop}
+use lib.ListN.{length, take, drop, replicate, length-drop, take-append-drop}
 use lib.Seq.{length-take-le}
 use Rattle.outcome.specs.Bytes.{Bytes}
 use Rattle.edc.specs.Bits.{bitsOf, bits, number, bytesOf}
@@ -72,7 +72,10 @@ number-plus (c ∷ cs) (d ∷ ds) h k e =
 pub number-scaled : (q : ℕ) (cs : List ℕ) → number (scaled q cs) ≡ q * number cs
 unfolding number
 number-scaled q [] = sym (mul-zero q)
-number-scaled q (c ∷ cs) = ap (λ (x : ℕ). q * c + x * 2) (number-scaled q cs) ∙ sym (mul-add q c (number cs * 2) ∙ ap (λ (x : ℕ). q * c + x) (sym (mul-assoc q (number cs) 2)))
+number-scaled q (c ∷ cs) =
+    let e : number (scaled q cs) ≡ q * number cs = number-scaled q cs in
+    let f : q * (number cs * 2) ≡ q * number cs * 2 = sym (mul-assoc q (number cs) 2) in
+    omega (arith, mul-add q c (number cs * 2))
 
 -- ---- a list of bits is known by its length and its number
 
@@ -86,7 +89,8 @@ number-inj (c ∷ cs) (d ∷ ds) h k e z =
     let hd : d < 2 = k .0 in
     let p : c ≡ d = omega arith in
     let q : number cs ≡ number ds = omega arith in
-    ap₂ {C = List ℕ} (λ (x : ℕ) (l : List ℕ). x ∷ l) p (number-inj cs ds (h .1) (k .1) (suc-inj e) q)
+    let r : cs ≡ ds = number-inj cs ds (h .1) (k .1) (suc-inj e) q in
+    λ i. p i ∷ r i
 
 -- ---- bits of a number
 
@@ -105,7 +109,8 @@ bitsOf-number (c ∷ cs) h =
     let m : ℕ = number cs in
     let p : (c + m * 2) % 2 ≡ c = omega arith in
     let q : (c + m * 2) / 2 ≡ m = omega arith in
-    ap₂ {C = List ℕ} (λ (x : ℕ) (l : List ℕ). x ∷ l) p (ap (bitsOf (length cs)) q ∙ bitsOf-number cs (h .1))
+    let r : bitsOf (length cs) ((c + m * 2) / 2) ≡ cs = ap (bitsOf (length cs)) q ∙ bitsOf-number cs (h .1) in
+    λ i. p i ∷ r i
 
 -- ---- bytes
 
@@ -114,8 +119,8 @@ number-byte b bytes h =
     number-append (bitsOf 8 b) (bits bytes) ∙ ap₂ (λ (x n : ℕ). x + number (bits bytes) * 2 ^ n) (number-bitsOf 8 b h) (length-bitsOf 8 b)
 
 -- the first eight bits are the lowest byte of the number, and the others the rest of it
-pub first-byte : (cs : List ℕ) → Coefficients cs → 8 ≤ length cs → number cs ≡ number (drop 8 cs) * 256 + number (take 8 cs)
-first-byte cs h l =
+pub first-byte : (cs : List ℕ) → 8 ≤ length cs → number cs ≡ number (drop 8 cs) * 256 + number (take 8 cs)
+first-byte cs l =
     let e : length (take 8 cs) ≡ 8 = length-take-le 8 cs l in
     ap number (sym (take-append-drop 8 cs)) ∙ number-append (take 8 cs) (drop 8 cs)
     ∙ ap (λ (n : ℕ). number (take 8 cs) + number (drop 8 cs) * 2 ^ n) e ∙ omega arith
@@ -136,4 +141,4 @@ bits-bytesOf (suc n) cs h e =
 pub bytesOf-bits : (bytes : List ℕ) → Bytes bytes → bytesOf (length bytes) (bits bytes) ≡ bytes
 bytesOf-bits [] h = refl
 bytesOf-bits (b ∷ bytes) h =
-    ap₂ {C = List ℕ} (λ (x : ℕ) (l : List ℕ). x ∷ l) (number-bitsOf 8 b (h 0)) (bytesOf-bits bytes (λ i. h (suc i)))
+    λ i. number-bitsOf 8 b (h 0) i ∷ bytesOf-bits bytes (λ k. h (suc k)) i

@@ -1,4 +1,5 @@
--- Polynomials with coefficients modulo 2: the list of the coefficients, each 0 or 1, the highest power first.
+-- Polynomials with coefficients modulo 2, and the check polynomial of clause 14.3. A polynomial is the list of its coefficients, each
+-- 0 or 1, the highest power first.
 -- Assumes nothing.
 use mathlib.Core.Path.{_≡_, refl}
 use mathlib.Core.Bool.{cond}
@@ -12,7 +13,7 @@ abbrev pub Coefficients : List ℕ → Type 0
 Coefficients [] = Unit {0}
 Coefficients (c ∷ cs) = (c < 2) × Coefficients cs
 
--- two polynomials with as many coefficients, added; modulo 2 this is also their difference
+-- two polynomials with as many coefficients, added; modulo 2 their difference is the same
 abbrev pub plus : List ℕ → List ℕ → List ℕ
 plus [] ds = []
 plus (c ∷ cs) [] = []
@@ -23,7 +24,8 @@ abbrev pub scaled : ℕ → List ℕ → List ℕ
 scaled q [] = []
 scaled q (c ∷ cs) = q * c ∷ scaled q cs
 
--- a polynomial times another: times the other's highest coefficient, that many powers up, plus times the rest of it
+-- The product of two polynomials: p times the highest coefficient of the other, with a 0 for each power below that coefficient's,
+-- plus p times the rest of the other.
 abbrev pub product : List ℕ → List ℕ → List ℕ
 product p [] = replicate (length p - 1) 0
 product p (q ∷ qs) = plus (scaled q p ++ replicate (length qs) 0) (0 ∷ product p qs)
@@ -35,7 +37,7 @@ abbrev named : ℕ → List ℕ → ℕ
 named k [] = 0
 named k (p ∷ ps) = cond (eqb k p) 1 (named k ps)
 
--- the sum of the named powers of x, with the n coefficients below x^n
+-- the sum of the powers of x that a list names, with n coefficients
 abbrev pub powers : ℕ → List ℕ → List ℕ
 powers zero ps = []
 powers (suc n) ps = named n ps ∷ powers n ps

@@ -1,6 +1,6 @@
 -- The test for a remainder 0, on the list and on the number.
 -- Assumes nothing.
-use mathlib.Core.Path.{_≡_, refl, sym, ap, ap₂, _∙_}
+use mathlib.Core.Path.{_≡_, refl, sym, ap, _∙_}
 use mathlib.Core.Bool.{Bool, true, false, _&&_}
 use mathlib.Core.List.{List, [], _∷_}
 use Prim.Native.Nat.{ℕ, zero, suc, _+_, _*_}
@@ -10,7 +10,7 @@ use lib.Dec.{eqb, eqb·suc-zero}
 use lib.ListN.{length, replicate}
 use Rattle.edc.specs.Bits.{bits, number}
 use Rattle.edc.specs.Edc.{remainder, isZero, Divisible}
-use Rattle.edc.specs.Division.{length-remainder}
+use Rattle.edc.specs.Coefficients.{length-remainder}
 
 false-true : false ≡ true → ⊥
 false-true e = let z : _≡_ {A = ℕ} 0 1 = cc in omega arith

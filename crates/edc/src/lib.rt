@@ -10,7 +10,7 @@ ghost use Rattle.edc.specs.Register.{steps};
 ghost use Rattle.edc.specs.Rows.{rows};
 
 // 32 steps of the register: one entry for each of its bytes.
-fn run(t: &[u32; 1024], r: u32) -> u32
+fn advance(t: &[u32; 1024], r: u32) -> u32
     requires { ⌜ now t ≡ rows ⌝ }
     ensures { λ s. ⌜ s ≡ steps 32 r ⌝ }
 {
@@ -37,6 +37,7 @@ fn word(a: u8, b: u8, c: u8, d: u8) -> u32
     (a as u32) + (b as u32) * 256 + (c as u32) * 65536 + (d as u32) * 16777216
 }
 
+// The four bytes from i on.
 fn word_at(bytes: &[u8], i: usize) -> u32
     requires { ⌜ i + 4 ≤ length (now bytes) ⌝ }
     ensures { λ r. ⌜ r ≡ number (bits (take 4 (drop i (now (bytes .entry))))) ⌝ }
@@ -52,7 +53,7 @@ fn divide(t: &[u32; 1024], bytes: &[u8]) -> u32
     let mut r: u32 = 0;
     let mut i = 0;
     while 4 <= bytes.len() - i {
-        r = word_at(bytes, i) ^ run(t, r);
+        r = word_at(bytes, i) ^ advance(t, r);
         i += 4;
     }
     while i < bytes.len() {
@@ -75,13 +76,12 @@ pub fn parity(bytes: &[u8]) -> [u8; 4]
     ensures { λ r. ⌜ r ≡ edc (now (bytes .entry)) ⌝ }
 {
     let t = table::table();
-    let r = run(&t, divide(&t, bytes));
-    [
-        (r % 256) as u8,
-        (r / 256 % 256) as u8,
-        (r / 65536 % 256) as u8,
-        (r / 16777216) as u8,
-    ]
+    let r = advance(&t, divide(&t, bytes));
+    let a = (r % 256) as u8;
+    let b = (r / 256 % 256) as u8;
+    let c = (r / 65536 % 256) as u8;
+    let d = (r / 16777216) as u8;
+    [a, b, c, d]
 }
 
 // Whether the bytes, with the EDC field the last of them, are divisible.

@@ -1,7 +1,7 @@
 -- `edc::divide` meets its contract. In both loops the register holds the remainder of the bytes passed (`Passed`), and four bytes
 -- more, or one, are so many steps of it.
 -- Assumes nothing.
-use Prim.Native.Nat.{ℕ, _-_}
+use Prim.Native.Nat.{_-_}
 use native.Mathlib.Omega.{arith}
 use borrow.Author.Needs.{needs}
 use lib.ListN.{length}
@@ -30,8 +30,8 @@ sub-loop c = search needs
 word-at-requires : tie.Need-word-at-requires Inv-loop μ-loop Inv-loop2 μ-loop2
 word-at-requires c κs = omega arith
 
-run-requires : tie.Need-run-requires Inv-loop μ-loop Inv-loop2 μ-loop2
-run-requires c κs = c .before .before .before .before .pre
+advance-requires : tie.Need-advance-requires Inv-loop μ-loop Inv-loop2 μ-loop2
+advance-requires c κs = c .before .before .before .before .pre
 
 add-i : tie.Need-add-i Inv-loop μ-loop Inv-loop2 μ-loop2
 add-i c = omega arith
@@ -41,7 +41,7 @@ loop-less c = omega arith
 
 loop-again : tie.Need-loop-again Inv-loop μ-loop Inv-loop2 μ-loop2
 loop-again c =
-    passed-word (c .before .before .before .loop .inv) _ _ (omega arith) (c .before .word-at .ensures) (c .run .ensures)
+    passed-word (c .before .before .before .loop .inv) _ _ (omega arith) (c .before .word-at .ensures) (c .advance .ensures)
 
 loop2-holds : tie.Need-loop2-holds Inv-loop μ-loop Inv-loop2 μ-loop2
 loop2-holds c = c .before .loop .inv
@@ -61,7 +61,8 @@ loop2-less c = omega arith
 
 loop2-again : tie.Need-loop2-again Inv-loop μ-loop Inv-loop2 μ-loop2
 loop2-again c =
-    passed-byte (c .before .before .before .loop2 .inv) _ (λ k. c .before .shared-slice-known2 .given k .fits) (c .before .before .loop2-test .taken) (c .take-byte .ensures)
+    let l = c .before .before in
+    passed-byte (l .before .loop2 .inv) _ (λ k. c .before .shared-slice-known2 .given k .fits) (l .loop2-test .taken) (c .take-byte .ensures)
 
 returns : tie.Need-returns Inv-loop μ-loop Inv-loop2 μ-loop2
 returns c = passed-all (c .before .loop2 .inv) (c .loop2-test .left)
@@ -77,7 +78,7 @@ divide-spec =
     loop-holds
     sub-loop
     word-at-requires
-    run-requires
+    advance-requires
     add-i
     loop-less
     loop-again

@@ -14,23 +14,23 @@ table-requires c κs = search needs
 divide-requires : tie.Need-divide-requires
 divide-requires c κs = search needs
 
-run-requires : tie.Need-run-requires
-run-requires c κs = search needs
+advance-requires : tie.Need-advance-requires
+advance-requires c κs = search needs
 
-cast-t8 : tie.Need-cast-t8
-cast-t8 c = search needs
+cast-a : tie.Need-cast-a
+cast-a c = search needs
 
-cast-t11 : tie.Need-cast-t11
-cast-t11 c = search needs
+cast-b : tie.Need-cast-b
+cast-b c = search needs
 
-cast-t14 : tie.Need-cast-t14
-cast-t14 c = search needs
+cast-c : tie.Need-cast-c
+cast-c c = search needs
 
-cast-t16 : tie.Need-cast-t16
-cast-t16 c = search needs
+cast-d : tie.Need-cast-d
+cast-d c = search needs
 
 returns : tie.Need-returns
-returns c = edc-digits _ (c .run .result) (omega arith) (c .run .ensures ∙ ap (steps 32) (c .before .divide .ensures))
+returns c = edc-digits _ (c .advance .result) (omega arith) (c .advance .ensures ∙ ap (steps 32) (c .before .divide .ensures))
 
 pub parity-spec : {M : Type 1} → statement M
 parity-spec =
@@ -38,9 +38,9 @@ parity-spec =
     (tie.spec
     table-requires
     divide-requires
-    run-requires
-    cast-t8
-    cast-t11
-    cast-t14
-    cast-t16
+    advance-requires
+    cast-a
+    cast-b
+    cast-c
+    cast-d
     returns)

@@ -1,6 +1,6 @@
 -- `edc::table::table` meets its contract: the table's 1,024 values are computed, each by one sum (`Spread`).
 -- Assumes nothing.
-use mathlib.Core.Path.{_≡_, refl, ap, ap₂, _∙_}
+use mathlib.Core.Path.{_≡_, ap₂}
 use mathlib.Core.List.{List, _++_}
 use Prim.Native.Nat.{ℕ}
 use Rattle.edc.specs.Register.{step, steps, steps-add}

@@ -1,14 +1,12 @@
--- `edc::run` meets its contract: the four entries, added, are 32 steps (`run-entries`).
+-- `edc::advance` meets its contract: the four entries, added, are 32 steps (`advance-entries`).
 -- Assumes nothing.
-use mathlib.Core.Path.{_≡_, ap, _∙_}
+use mathlib.Core.Path.{ap, _∙_}
 use mathlib.Core.List.{List}
-use Prim.Native.Nat.{ℕ, _+_, _/_, _%_}
-use lib.Bits.{bitXor}
-use lib.ListN.{getD}
-use Rattle.edc.proofs.Entries.{run-entries}
+use Prim.Native.Nat.{ℕ}
+use Rattle.edc.proofs.Entries.{entries, advance-entries}
 use borrow.Author.Needs.{needs}
-use Rattle.edc.proofs.run.Statement.{statement}
-use Rattle.edc.proofs.run.Tie as tie
+use Rattle.edc.proofs.advance.Statement.{statement}
+use Rattle.edc.proofs.advance.Tie as tie
 
 add-a : tie.Need-add-a
 add-a c = search needs
@@ -58,14 +56,10 @@ element-copy-out-d c = search needs
 returns : tie.Need-returns
 returns c =
     let s = c .before .before .before .before in
-    let n : ℕ = s .args .r in
-    ap
-    (λ (t : List ℕ). bitXor (bitXor (bitXor (getD t (768 + n % 256) 0) (getD t (512 + n / 256 % 256) 0)) (getD t (256 + n / 65536 % 256) 0)) (getD t (n / 16777216) 0))
-    (s .pre)
-    ∙ run-entries n (s .fits .r .fits)
+    ap (λ (t : List ℕ). entries t (s .args .r)) (s .pre) ∙ advance-entries (s .args .r) (s .fits .r .fits)
 
-pub run-spec : {M : Type 1} → statement M
-run-spec =
+pub advance-spec : {M : Type 1} → statement M
+advance-spec =
     tie.close
     (tie.spec
     add-a

@@ -1,0 +1,4 @@
+mod Chain
+mod Exchanging
+mod Masked
+mod SameLengths
