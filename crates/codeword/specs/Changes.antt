@@ -3,7 +3,7 @@
 use mathlib.Core.Path.{_≡_, refl, sym, ap, ap₂, _∙_}
 use mathlib.Core.Bool.{cond}
 use mathlib.Core.Logic.{_⊎_, inl, inr}
-use mathlib.Core.List.{List, [], _∷_, _++_}
+use mathlib.Core.List.{List, [], _∷_}
 use Prim.Native.Nat.{ℕ, zero, suc, _+_, _≤_, _<_}
 use native.Mathlib.Decide.{ℕ-discrete}
 use native.Mathlib.Omega.{arith}
@@ -44,6 +44,12 @@ changes-none (x ∷ a) (y ∷ b) e h = go (ℕ-discrete x y) (changes-none a b (
     go : Dec (x ≡ y) → (changes a b ≡ 0 → a ≡ b) → x ∷ a ≡ y ∷ b
     go (yes p) r = ap₂ _∷_ p (r (omega (arith, unlike-same x y p)))
     go (no n) r = absurd (omega (arith, unlike-other x y n))
+
+pub changes-le : (a b : List ℕ) → changes a b ≤ length a
+unfolding changes
+changes-le [] b = omega arith
+changes-le (x ∷ a) [] = omega arith
+changes-le (x ∷ a) (y ∷ b) = omega (arith, unlike-le x y, changes-le a b)
 
 pub changes-set : (w : List ℕ) (i v : ℕ) → changes w (set w i v) ≤ 1
 unfolding changes

@@ -1,10 +1,10 @@
 -- The fault by the sums decides as the verdict on the word does, so it finds the codeword near a word exactly where there is one.
 -- Assumes nothing.
-use mathlib.Core.Path.{_≡_, refl, sym, ap, ap₂, _∙_, subst}
+use mathlib.Core.Path.{_≡_, refl, sym, ap, ap₂, _∙_}
 use mathlib.Core.Bool.{Bool, true, false, cond, _&&_}
 use mathlib.Core.List.{List}
-use mathlib.Core.Option.{Option, none, some}
-use Prim.Native.Nat.{ℕ, zero, suc, _*_, _-_, _≤_, _<_}
+use mathlib.Core.Option.{some}
+use Prim.Native.Nat.{ℕ, zero, suc, _*_, _≤_, _<_}
 use native.Mathlib.Decide.{ℕ-discrete}
 use native.Mathlib.Omega.{arith}
 use lib.Bits.{bitXor, xor-self}
@@ -17,13 +17,12 @@ use Rattle.outcome.specs.Table.{allBelow, length-tabulated, tabulated-at}
 use Rattle.xor.specs.Laws.{xor-equal}
 use Rattle.field.specs.Field.{power, mul}
 use Rattle.codeword.specs.Code.{sum, sums, Codeword, Near}
-use Rattle.codeword.specs.Nearest.{isCodeword, placeBefore, newByte, changed, change, bytesAfter, verdict, mended, nearest}
+use Rattle.codeword.specs.Nearest.{isCodeword, placeBefore, newByte, changed, bytesAfter, verdict, mended, nearest}
 use Rattle.codeword.specs.NearestLaws.{nearest-sound, nearest-none}
-use Rattle.codeword.specs.Fault.{allZero, fits, faultAt, fault, cure}
+use Rattle.codeword.specs.Fault.{allZero, fits, fault, cure}
 use Rattle.codeword.specs.Sums.{sum-set}
 use Rattle.codeword.specs.declared.Fault.{Fault}
 use Rattle.codeword.specs.declared.Fault.the-variants as faults
-use Rattle.codeword.specs.declared.Verdict.{Verdict}
 use Rattle.codeword.specs.declared.Verdict.the-variants as verdicts
 
 -- ---- tests that agree
