@@ -1,8 +1,8 @@
 -- The invariant of the pass over the rows: the sums of the columns of the rows passed.
 -- Assumes nothing.
-use mathlib.Core.Path.{_≡_, refl, sym, ap, ap₂, _∙_}
+use mathlib.Core.Path.{_≡_, refl, sym, ap, _∙_}
 use mathlib.Core.Bool.{Bool, true, cond}
-use mathlib.Core.List.{List, [], _∷_}
+use mathlib.Core.List.{List, _∷_}
 use Prim.Native.Nat.{ℕ, zero, suc, _+_, _-_, _*_, _/_, _<_, _≤_}
 use native.Mathlib.Nat.{mul-zero, mul-suc, mul-comm, suc-mul, div-eq-of-lt-le}
 use native.Mathlib.Numerals.{add-one}

@@ -1,19 +1,20 @@
 -- The sums of columns row by row (Horner): what one more row does to them.
 -- Assumes nothing.
-use mathlib.Core.Path.{_≡_, refl, sym, ap, ap₂, _∙_}
+use mathlib.Core.Path.{_≡_, sym, ap, ap₂, _∙_}
 use mathlib.Core.List.{List, [], _∷_, _++_}
-use Prim.Native.Nat.{ℕ, zero, suc, _+_, _*_, _<_, _≤_}
+use Prim.Native.Nat.{ℕ, zero, suc, _+_, _*_, _<_}
 use native.Mathlib.Nat.{zero-add, suc-add, add-suc, add-zero, mul-one}
 use native.Mathlib.Omega.{arith}
 use lib.Bits.{bitXor}
-use lib.ListN.{length, getD, take, drop, replicate, length-replicate, getD-replicate, length-take, length-drop}
-use lib.Seq.{ext-getD, getD-take, getD-drop}
+use lib.ListN.{length, getD}
+use lib.Seq.{ext-getD}
 use Rattle.outcome.specs.Bytes.{Bytes, bytes-nil, bytes-cons}
 use Rattle.outcome.specs.Table.{tabulated, tabulated-at, length-tabulated}
 use Rattle.xor.specs.Lists.{added, length-added, added-at}
 use Rattle.field.specs.Field.{timesAlpha, power, mul}
+use Rattle.field.specs.Laws.{mul-power-suc}
 use Rattle.codeword.specs.Code.{sum}
-use Rattle.codeword.specs.Sums.{sum-lt, sum-one, sum-append, times-0, times-1}
+use Rattle.codeword.specs.Sums.{sum-lt, sum-one, sum-append, times-0}
 use Rattle.sweep.specs.Columns.{column, columnSums}
 
 -- each sum times α, plus the row's byte
@@ -61,6 +62,9 @@ unfolding columnSums
 sums-at j w n s k h = tabulated-at (λ k. sum j (column w n s k)) w k h
 
 -- ---- one row more
+
+times-1 : (x : ℕ) → x < 256 → mul x (power 1) ≡ timesAlpha x
+times-1 x h = mul-power-suc x 0 h ∙ ap timesAlpha (times-0 x)
 
 -- of one column
 column-more : (j w n : ℕ) (s : List ℕ) (k : ℕ) → Bytes s

@@ -3,7 +3,6 @@
 use mathlib.Core.Path.{_≡_, sym, ap, _∙_}
 use Prim.Native.Nat.{ℕ, _-_}
 use native.Mathlib.Omega.{arith}
-use borrow.Author.Needs.{needs}
 use lib.ListN.{length}
 use Rattle.sweep.specs.Columns.{allSums}
 use Rattle.sweep.proofs.Sweeping.{Sweeping, sweeping-none, long-0, long-1, next-long, sweeping-more, sweeping-all}

@@ -1,7 +1,6 @@
 -- `sweep::sums` meets its contract: it tests what `fitting` says and hands the work to the pass over the rows.
 -- Assumes nothing.
 use mathlib.Core.Path.{refl, sym}
-use native.Mathlib.Omega.{arith}
 use borrow.Author.Needs.{needs}
 use Rattle.sweep.specs.Columns.{fit, unlike-lengths, no-columns}
 use Rattle.sweep.proofs.sums.Statement.{statement}
