@@ -38,16 +38,16 @@ p-at s n r h = tabulated-at (λ r. getD s (place (n / 43) (pNumber (n % 43) r)) 
 tabulated-same : (f g : ℕ → ℕ) (n : ℕ) → ((k : ℕ) → k < n → f k ≡ g k) → tabulated f 0 n ≡ tabulated g 0 n
 tabulated-same f g n h =
     ext-getD 0 (tabulated f 0 n) (tabulated g 0 n) (length-tabulated f 0 n ∙ sym (length-tabulated g 0 n))
-      (λ k l.
-        let m : k < n = omega (arith, length-tabulated f 0 n) in
-        tabulated-at f n k m ∙ h k m ∙ sym (tabulated-at g n k m))
+    (λ k l.
+    let m : k < n = omega (arith, length-tabulated f 0 n) in
+    tabulated-at f n k m ∙ h k m ∙ sym (tabulated-at g n k m))
 
 -- a P codeword takes its bytes from 12 to 2,247
 pub p-same : (s t : List ℕ) (n : ℕ) → n < 86 → SameCovered s t → pWord s n ≡ pWord t n
 unfolding pWord
 p-same s t n h c =
     tabulated-same (λ r. getD s (place (n / 43) (pNumber (n % 43) r)) 0) (λ r. getD t (place (n / 43) (pNumber (n % 43) r)) 0) 26
-      (λ r l. c (place (n / 43) (pNumber (n % 43) r)) (omega arith) (omega arith))
+    (λ r l. c (place (n / 43) (pNumber (n % 43) r)) (omega arith) (omega arith))
 
 -- the P codeword of byte 12 + i; its row is i / 86
 abbrev pOf : ℕ → ℕ

@@ -50,12 +50,12 @@ module _ (s t : List ℕ) (hs : Bytes s) (ht : Bytes t) where
       → ((n : ℕ) → n < 86 → Codeword 2 (pWord t n)) → SameCovered s t
   p-one same cs ct =
       p-covers s t
-        (λ n h. last-two (pWord s n) (pWord t n) 24 (length-p s n) (length-p t n) (omega arith) (bytes-p s n hs) (bytes-p t n ht) (cs n h) (ct n h)
-          (λ r l. p-at s n r (omega arith) ∙ same (place (n / 43) (pNumber (n % 43) r)) (omega arith) (omega arith) ∙ sym (p-at t n r (omega arith))))
+      (λ n h. last-two (pWord s n) (pWord t n) 24 (length-p s n) (length-p t n) (omega arith) (bytes-p s n hs) (bytes-p t n ht) (cs n h) (ct n h)
+      (λ r l. p-at s n r (omega arith) ∙ same (place (n / 43) (pNumber (n % 43) r)) (omega arith) (omega arith) ∙ sym (p-at t n r (omega arith))))
 
   -- the Q parity is determined by bytes 12 to 2,247
   pub q-one : SameCovered s t → ((n : ℕ) → n < 52 → Codeword 2 (qWord s n)) → ((n : ℕ) → n < 52 → Codeword 2 (qWord t n)) → SameQParity s t
   q-one same cs ct =
       q-covers s t
-        (λ n h. last-two (qWord s n) (qWord t n) 43 (length-q s n) (length-q t n) (omega arith) (bytes-q s n hs) (bytes-q t n ht) (cs n h) (ct n h)
-          (λ m l. q-front s t n m h l same))
+      (λ n h. last-two (qWord s n) (qWord t n) 43 (length-q s n) (length-q t n) (omega arith) (bytes-q s n hs) (bytes-q t n ht) (cs n h) (ct n h)
+      (λ m l. q-front s t n m h l same))
