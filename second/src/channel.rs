@@ -19,16 +19,11 @@ pub const MOST_SECTIONS: u64 = 450_000;
 
 /// Eight bits a byte, the most significant first.
 pub fn pack(bits: &[u8]) -> Vec<u8> {
-    bits.chunks(8)
-        .map(|eight| eight.iter().fold(0, |byte, bit| byte << 1 | bit))
-        .collect()
+    bits.chunks(8).map(|eight| eight.iter().fold(0, |byte, bit| byte << 1 | bit)).collect()
 }
 
 pub fn unpack(bytes: &[u8]) -> Vec<u8> {
-    bytes
-        .iter()
-        .flat_map(|byte| (0..8).rev().map(move |n| byte >> n & 1))
-        .collect()
+    bytes.iter().flat_map(|byte| (0..8).rev().map(move |n| byte >> n & 1)).collect()
 }
 
 #[derive(Clone, Copy, Debug, PartialEq, Eq)]
@@ -40,11 +35,7 @@ pub struct SectionWriter {
 
 impl SectionWriter {
     pub fn new() -> SectionWriter {
-        SectionWriter {
-            level: -1,
-            dsv: 0,
-            count: 0,
-        }
+        SectionWriter { level: -1, dsv: 0, count: 0 }
     }
 
     fn in_range(&self) -> bool {
@@ -134,10 +125,7 @@ pub fn read_section(channel: &[u8], bytes: &mut [u8], marks: &mut [u8]) -> Resul
     }
     let bits = unpack(channel);
     let frames: Vec<&[u8]> = bits.chunks(588).collect();
-    if let Some(frame) = frames
-        .iter()
-        .position(|frame| !frame.starts_with(&SYNC_HEADER))
-    {
+    if let Some(frame) = frames.iter().position(|frame| !frame.starts_with(&SYNC_HEADER)) {
         return Err(NoSyncHeader { frame });
     }
     let words = words();

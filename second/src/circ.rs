@@ -73,9 +73,9 @@ impl CircWriter {
         c1.extend([0; 4]);
         fill(&mut c1, 28, 4);
         self.c1.push(c1);
-        for row in 0..32 {
+        for (row, out) in out.iter_mut().enumerate() {
             let byte = self.c1.byte(if row % 2 == 0 { 1 } else { 0 }, row);
-            out[row] = if is_parity(row) { !byte } else { byte };
+            *out = if is_parity(row) { !byte } else { byte };
         }
         Ok(())
     }
@@ -114,17 +114,13 @@ impl CircReader {
             }
         };
         self.f2.push((0..32).map(turned).collect());
-        let c1: Vec<u8> = (0..32)
-            .map(|row| self.f2.byte(if row % 2 == 0 { 0 } else { 1 }, row))
-            .collect();
+        let c1: Vec<u8> =
+            (0..32).map(|row| self.f2.byte(if row % 2 == 0 { 0 } else { 1 }, row)).collect();
         self.after_c1.push(nearest(&c1, 4).unwrap_or(c1));
-        let c2: Vec<u8> = (0..28)
-            .map(|row| self.after_c1.byte(4 * (27 - row), row))
-            .collect();
+        let c2: Vec<u8> = (0..28).map(|row| self.after_c1.byte(4 * (27 - row), row)).collect();
         let near = nearest(&c2, 4);
         let doubt = near.is_none() as u8;
-        self.after_c2
-            .push([near.unwrap_or(c2), vec![doubt]].concat());
+        self.after_c2.push([near.unwrap_or(c2), vec![doubt]].concat());
         for (row, byte) in F1_BYTE.iter().enumerate() {
             if let Some(byte) = byte {
                 out[*byte] = self.after_c2.byte(if row < 12 { 0 } else { 2 }, row);

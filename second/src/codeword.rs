@@ -43,10 +43,7 @@ pub fn verdict(word: &[u8], sums: usize) -> Verdict {
         let weights: Vec<u8> = (0..sums).map(|j| weight(j, place, word.len())).collect();
         for change in 1..=255 {
             if (0..sums).all(|j| found[j] ^ product(change, weights[j]) == 0) {
-                return Verdict::Change {
-                    place,
-                    value: word[place] ^ change,
-                };
+                return Verdict::Change { place, value: word[place] ^ change };
             }
         }
     }
@@ -71,10 +68,7 @@ pub fn fill(word: &mut [u8], start: usize, count: usize) {
     word[places.clone()].fill(0);
     let mut rows: Vec<Vec<u8>> = Vec::new();
     for j in 0..count {
-        let mut row: Vec<u8> = places
-            .clone()
-            .map(|place| weight(j, place, word.len()))
-            .collect();
+        let mut row: Vec<u8> = places.clone().map(|place| weight(j, place, word.len())).collect();
         row.push(sum(j, word));
         rows.push(row);
     }
@@ -84,11 +78,7 @@ pub fn fill(word: &mut [u8], start: usize, count: usize) {
         for (j, row) in rows.iter_mut().enumerate() {
             let times = row[column];
             for (x, &p) in row.iter_mut().zip(&pivot) {
-                *x = if j == column {
-                    p
-                } else {
-                    *x ^ product(p, times)
-                };
+                *x = if j == column { p } else { *x ^ product(p, times) };
             }
         }
     }

@@ -65,8 +65,8 @@ mod tests {
     fn polynomial_is_the_product_in_14_3() {
         let whole = whole_polynomial();
         assert_eq!(whole, powers(32, &[32, 31, 16, 15, 4, 3, 1, 0]));
-        for n in 0..32 {
-            assert_eq!(POLYNOMIAL >> n & 1, whole[n] as u32);
+        for (n, &coefficient) in whole[..32].iter().enumerate() {
+            assert_eq!(POLYNOMIAL >> n & 1, coefficient as u32);
         }
     }
 
@@ -82,10 +82,10 @@ mod tests {
         let mut random = Random::new(1);
         for _ in 0..200 {
             let quotient: Vec<u8> = (0..8 * 100 - 32).map(|_| random.byte() & 1).collect();
-            let rest = random.next() as u32;
+            let rest = random.number() as u32;
             let mut multiple = times(&quotient, &whole_polynomial());
-            for n in 0..32 {
-                multiple[n] ^= (rest >> n & 1) as u8;
+            for (n, coefficient) in multiple[..32].iter_mut().enumerate() {
+                *coefficient ^= (rest >> n & 1) as u8;
             }
             let mut bytes = vec![0u8; 100];
             for (n, coefficient) in multiple.iter().rev().enumerate() {

@@ -5,11 +5,7 @@ pub const ALPHA: u8 = 0x02;
 /// Shifted by one place, and reduced where x^8 appears.
 pub fn times_alpha(x: u8) -> u8 {
     let shifted = (x as u16) << 1;
-    let reduced = if shifted & 0x100 != 0 {
-        shifted ^ 0x11D
-    } else {
-        shifted
-    };
+    let reduced = if shifted & 0x100 != 0 { shifted ^ 0x11D } else { shifted };
     reduced as u8
 }
 

@@ -7,7 +7,7 @@ impl Random {
         Random(seed)
     }
 
-    pub fn next(&mut self) -> u64 {
+    pub fn number(&mut self) -> u64 {
         self.0 = self.0.wrapping_add(0x9E37_79B9_7F4A_7C15);
         let mut z = self.0;
         z = (z ^ (z >> 30)).wrapping_mul(0xBF58_476D_1CE4_E5B9);
@@ -17,11 +17,11 @@ impl Random {
 
     /// A number below `bound`, which is not 0.
     pub fn below(&mut self, bound: usize) -> usize {
-        (self.next() % bound as u64) as usize
+        (self.number() % bound as u64) as usize
     }
 
     pub fn byte(&mut self) -> u8 {
-        self.next() as u8
+        self.number() as u8
     }
 
     /// A byte other than 0: a change that is one.
@@ -62,7 +62,7 @@ mod tests {
     /// The published first output of splitmix64 for the seed 0.
     #[test]
     fn first_number() {
-        assert_eq!(Random::new(0).next(), 0xE220_A839_7B1D_CDAF);
+        assert_eq!(Random::new(0).number(), 0xE220_A839_7B1D_CDAF);
     }
 
     #[test]

@@ -58,10 +58,7 @@ mod tests {
 
     #[test]
     fn less_than_a_sector() {
-        assert_eq!(
-            report(&[0; 2351]),
-            "cd sectors 1\ntail 2351\nclean 0 repaired 0 refused 0\n"
-        );
+        assert_eq!(report(&[0; 2351]), "cd sectors 1\ntail 2351\nclean 0 repaired 0 refused 0\n");
     }
 
     /// Damage in sync, address, data and Q parity; the address is the one handed out.
@@ -81,10 +78,7 @@ mod tests {
                         clean 2 repaired 1 refused 1\n";
         assert_eq!(report(&input), expected);
         let with_tail = [input.as_slice(), &[7]].concat();
-        assert_eq!(
-            report(&with_tail),
-            expected.replace("clean 2 ", "tail 1\nclean 2 ")
-        );
+        assert_eq!(report(&with_tail), expected.replace("clean 2 ", "tail 1\nclean 2 "));
     }
 
     #[test]

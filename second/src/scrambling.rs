@@ -36,13 +36,7 @@ fn step(incoming: &[u8], out: &mut [u8], at: impl Fn(usize) -> u8) -> Result<(),
 /// Adds the sequence; done twice it undoes itself.
 pub fn scramble(sector: &[u8], out: &mut [u8]) -> Result<(), Refusal> {
     let sequence = sequence();
-    step(sector, out, |n| {
-        if n < 12 {
-            sector[n]
-        } else {
-            sector[n] ^ sequence[n - 12]
-        }
-    })
+    step(sector, out, |n| if n < 12 { sector[n] } else { sector[n] ^ sequence[n - 12] })
 }
 
 /// Byte `place` of frame `frame`, in 98 frames of 24 one after another, is the other of its pair.
@@ -77,10 +71,7 @@ mod tests {
 
     #[test]
     fn start_of_the_sequence() {
-        assert_eq!(
-            sequence()[..8],
-            [0x01, 0x80, 0x00, 0x60, 0x00, 0x28, 0x00, 0x1E]
-        );
+        assert_eq!(sequence()[..8], [0x01, 0x80, 0x00, 0x60, 0x00, 0x28, 0x00, 0x1E]);
     }
 
     /// Document 01's rule over a list of bits: bit 0 is 1, 1 to 14 are 0, bit n+15 is bit n plus bit n+1.
@@ -91,10 +82,8 @@ mod tests {
         for n in 0..8 * 2340 - 15 {
             bits.push((bits[n] + bits[n + 1]) % 2);
         }
-        let bytes: Vec<u8> = bits
-            .chunks(8)
-            .map(|eight| (0..8).map(|n| eight[n] << n).sum())
-            .collect();
+        let bytes: Vec<u8> =
+            bits.chunks(8).map(|eight| (0..8).map(|n| eight[n] << n).sum()).collect();
         assert_eq!(bytes.len(), 2340);
         assert_eq!(sequence(), bytes);
     }
@@ -106,10 +95,7 @@ mod tests {
         assert_eq!(scrambled[12..], sequence());
         let scrambled = done(scramble, &[0xFF; LENGTH]);
         assert_eq!(scrambled[..12], [0xFF; 12]);
-        assert!(scrambled[12..]
-            .iter()
-            .zip(sequence())
-            .all(|(x, y)| x ^ y == 0xFF));
+        assert!(scrambled[12..].iter().zip(sequence()).all(|(x, y)| x ^ y == 0xFF));
     }
 
     #[test]

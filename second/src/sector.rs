@@ -1,8 +1,11 @@
-//! ECMA-130, clause 14 and Annex A; document 01, A Sector, P and Q: writing, judging and repair.
+//! ECMA-130, clause 14 and Annex A; document 01, A Sector, P and Q: layout, writing and judging.
 
-use crate::codeword::{fill, is_codeword, nearest};
+mod repair;
+
+use crate::codeword::{fill, is_codeword};
 use crate::edc;
 use crate::refusal::{clear, Refusal, Refusal::*};
+pub use repair::repair;
 
 pub const LENGTH: usize = 2352;
 pub const SYNC: [u8; 12] = [0, 255, 255, 255, 255, 255, 255, 255, 255, 255, 255, 0];
@@ -141,36 +144,6 @@ pub fn judge(sector: &[u8]) -> Result<Passed, Refusal> {
         return Err(WrongFiller);
     }
     Ok(Passed { mode, address })
-}
-
-/// The only Sector that can be the one wanted: each P codeword mended, sync set, Q parity worked out afresh.
-fn mended(received: &[u8]) -> Option<Vec<u8>> {
-    let mut sector = received.to_vec();
-    for n in 0..P_CODEWORDS {
-        let positions = p_positions(n);
-        let word = nearest(&take(&sector, &positions), 2)?;
-        put(&mut sector, &positions, &word);
-    }
-    sector[..12].copy_from_slice(&SYNC);
-    (0..Q_CODEWORDS).for_each(|n| set_parity(&mut sector, &q_positions(n)));
-    let correct = matches!(judge(&sector), Ok(Passed { mode: 1, .. }));
-    correct.then_some(sector)
-}
-
-/// The changed count. Refusals 1, 2, 5.
-pub fn repair(received: &[u8], out: &mut [u8]) -> Result<usize, Refusal> {
-    clear(out, LENGTH);
-    if received.len() != LENGTH {
-        return Err(WrongIncoming);
-    }
-    if out.len() != LENGTH {
-        return Err(WrongOutgoing);
-    }
-    let Some(sector) = mended(received) else {
-        return Err(NoSectorNear);
-    };
-    out.copy_from_slice(&sector);
-    Ok((0..LENGTH).filter(|&at| received[at] != sector[at]).count())
 }
 
 #[cfg(test)]

@@ -49,13 +49,7 @@ struct Work {
 
 impl Work {
     fn new(name: &'static str, most: Option<f64>, once: impl FnMut() + 'static) -> Work {
-        let mut work = Work {
-            name,
-            most,
-            once: Box::new(once),
-            passes: 1,
-            times: Vec::new(),
-        };
+        let mut work = Work { name, most, once: Box::new(once), passes: 1, times: Vec::new() };
         while work.round() < ROUND_TIME {
             work.passes *= 2;
         }
@@ -84,11 +78,7 @@ fn works() -> Vec<Work> {
     let unit = move || {
         black_box(crc.pass(black_box(&sector)));
     };
-    vec![Work::new(
-        "unit: CRC-32 by a byte table, 2,352 bytes",
-        None,
-        unit,
-    )]
+    vec![Work::new("unit: CRC-32 by a byte table, 2,352 bytes", None, unit)]
 }
 
 fn main() {
@@ -100,10 +90,7 @@ fn main() {
         }
     }
     let unit = works[0].median();
-    println!(
-        "one unit is {:.2} µs, the median of {ROUNDS} rounds",
-        unit * 1e6
-    );
+    println!("one unit is {:.2} µs, the median of {ROUNDS} rounds", unit * 1e6);
     println!("{:>8} {:>8}  work", "units", "at most");
     for work in &works {
         let most = work.most.map_or(String::new(), |most| format!("{most:.2}"));

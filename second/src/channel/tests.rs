@@ -1,4 +1,6 @@
+mod choosing;
 mod reading;
+mod refusals;
 mod writing;
 
 use super::*;

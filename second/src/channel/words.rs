@@ -7,9 +7,8 @@ pub type Word = [u8; 14];
 
 pub const SYNC_0: Word = [0, 0, 1, 0, 0, 0, 0, 0, 0, 0, 0, 0, 0, 1];
 pub const SYNC_1: Word = [0, 0, 0, 0, 0, 0, 0, 0, 0, 1, 0, 0, 1, 0];
-pub const SYNC_HEADER: [u8; 24] = [
-    1, 0, 0, 0, 0, 0, 0, 0, 0, 0, 0, 1, 0, 0, 0, 0, 0, 0, 0, 0, 0, 0, 1, 0,
-];
+pub const SYNC_HEADER: [u8; 24] =
+    [1, 0, 0, 0, 0, 0, 0, 0, 0, 0, 0, 1, 0, 0, 0, 0, 0, 0, 0, 0, 0, 0, 1, 0];
 
 /// The digits of a text such as 100.
 pub fn digits(text: &str) -> Vec<u8> {
@@ -48,10 +47,7 @@ pub fn words() -> Vec<Word> {
         words[byte] = moved(words[byte - 0x20].clone(), 12, 13);
     }
     words[0x66] = digits("01000000100100");
-    words
-        .into_iter()
-        .map(|word| word.try_into().expect("14 digits"))
-        .collect()
+    words.into_iter().map(|word| word.try_into().expect("14 digits")).collect()
 }
 
 #[cfg(test)]

@@ -32,7 +32,5 @@ pub fn some_frames(random: &mut Random, count: usize) -> Vec<Vec<u8>> {
 
 /// What the F2-frames of endless zero F1-frames look like.
 pub fn zero_f2() -> Vec<u8> {
-    (0..32)
-        .map(|row| if is_parity(row) { 0xFF } else { 0x00 })
-        .collect()
+    (0..32).map(|row| if is_parity(row) { 0xFF } else { 0x00 }).collect()
 }

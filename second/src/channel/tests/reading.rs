@@ -21,14 +21,8 @@ fn with_bits(section: &[u8], at: usize, digits: &[u8]) -> Vec<u8> {
 
 #[test]
 fn packing() {
-    assert_eq!(
-        pack(&[1, 0, 0, 0, 0, 0, 1, 0, 0, 1, 1, 1, 1, 1, 1, 1]),
-        [0x82, 0x7F]
-    );
-    assert_eq!(
-        unpack(&[0x82, 0x7F]),
-        [1, 0, 0, 0, 0, 0, 1, 0, 0, 1, 1, 1, 1, 1, 1, 1]
-    );
+    assert_eq!(pack(&[1, 0, 0, 0, 0, 0, 1, 0, 0, 1, 1, 1, 1, 1, 1, 1]), [0x82, 0x7F]);
+    assert_eq!(unpack(&[0x82, 0x7F]), [1, 0, 0, 0, 0, 0, 1, 0, 0, 1, 1, 1, 1, 1, 1, 1]);
 }
 
 #[test]
@@ -80,11 +74,7 @@ fn every_word_in_both_kinds_of_place() {
                 _ => data,
             };
             assert_eq!((bytes[33 * n], marks[33 * n]), control, "{number:014b}");
-            assert_eq!(
-                (bytes[33 * n + 5], marks[33 * n + 5]),
-                data,
-                "{number:014b}"
-            );
+            assert_eq!((bytes[33 * n + 5], marks[33 * n + 5]), data, "{number:014b}");
         }
     }
 }
@@ -155,20 +145,13 @@ fn the_first_frame_without_a_header_is_told() {
 #[test]
 fn lengths_and_their_order() {
     let (section, ..) = some_section(15);
-    for (incoming, right) in [
-        (&section[..], true),
-        (&section[1..], false),
-        (&[0; PACKED], true),
-    ] {
+    for (incoming, right) in [(&section[..], true), (&section[1..], false), (&[0; PACKED], true)] {
         for (first, second) in [(0, 1), (1, 0), (1, 1), (-1, 0), (0, -1), (-1, -1)] {
             let length = |by: isize| (READ_BYTES as isize + by) as usize;
             let mut bytes = vec![0xAA; length(first)];
             let mut marks = vec![0xAA; length(second)];
             let expected = if right { WrongOutgoing } else { WrongIncoming };
-            assert_eq!(
-                read_section(incoming, &mut bytes, &mut marks),
-                Err(expected)
-            );
+            assert_eq!(read_section(incoming, &mut bytes, &mut marks), Err(expected));
             for (buffer, by) in [(bytes, first), (marks, second)] {
                 assert_eq!(buffer, vec![if by == 0 { 0 } else { 0xAA }; length(by)]);
             }

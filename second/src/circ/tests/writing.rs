@@ -26,11 +26,7 @@ fn rows_are_those_of_figure_c_4() {
     let f2 = written(&frames);
     for n in 0..frames.len() {
         for (row, word, half, delay) in FIGURE_C_4 {
-            let expected = if n < delay {
-                0
-            } else {
-                frames[n - delay][2 * word + half]
-            };
+            let expected = if n < delay { 0 } else { frames[n - delay][2 * word + half] };
             assert_eq!(f2[n][row], expected, "step {n}, row {row}");
         }
     }
@@ -69,9 +65,7 @@ fn delays_of_rows() {
         let mut frames = vec![vec![0; 24]; 150];
         frames[0][byte] = 0x35;
         let quiet = zero_f2()[row];
-        written(&frames)
-            .iter()
-            .position(|frame| frame[row] != quiet)
+        written(&frames).iter().position(|frame| frame[row] != quiet)
     };
     assert_eq!(first_seen(0, 0), Some(3));
     assert_eq!(first_seen(19, 11), Some(46));

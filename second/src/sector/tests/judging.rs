@@ -20,10 +20,7 @@ fn lengths() {
     for length in [0, 1, 2351] {
         assert_eq!(judge(&sector[..length]), Err(WrongIncoming));
     }
-    assert_eq!(
-        judge(&[sector.as_slice(), &[0]].concat()),
-        Err(WrongIncoming)
-    );
+    assert_eq!(judge(&[sector.as_slice(), &[0]].concat()), Err(WrongIncoming));
 }
 
 #[test]
@@ -41,25 +38,16 @@ fn every_byte_of_the_header() {
             wrong[15] = byte;
             assert_eq!(judge(&wrong), Err(WrongMode));
         }
-        for address in [
-            [0x00, 0x60, 0x00],
-            [0x00, 0x00, 0x75],
-            [0x0A, 0x00, 0x00],
-            [0xA0, 0x00, 0x00],
-        ] {
+        for address in
+            [[0x00, 0x60, 0x00], [0x00, 0x00, 0x75], [0x0A, 0x00, 0x00], [0xA0, 0x00, 0x00]]
+        {
             let mut wrong = sector.clone();
             wrong[12..15].copy_from_slice(&address);
             assert_eq!(judge(&wrong), Err(WrongAddress));
         }
     }
     let highest = sealed_with(&some_sector(&mut random, 1), 12, &[0x99, 0x59, 0x74]);
-    assert_eq!(
-        judge(&highest),
-        Ok(Passed {
-            mode: 1,
-            address: [0x99, 0x59, 0x74]
-        })
-    );
+    assert_eq!(judge(&highest), Ok(Passed { mode: 1, address: [0x99, 0x59, 0x74] }));
 }
 
 /// Of each byte of a Mode 01 Sector from 16 on: the EDC speaks first, then the Intermediate field, then the first P
@@ -74,12 +62,8 @@ fn every_byte_of_mode_01() {
         let expected = match at {
             16..=2067 => WrongEdc,
             2068..=2075 => WrongIntermediate,
-            2076..=2247 => WrongP {
-                codeword: (at - 12) / 2 % 43 + (at - 12) % 2 * 43,
-            },
-            _ => WrongQ {
-                codeword: (at - 2248) / 2 % 26 + at % 2 * 26,
-            },
+            2076..=2247 => WrongP { codeword: (at - 12) / 2 % 43 + (at - 12) % 2 * 43 },
+            _ => WrongQ { codeword: (at - 2248) / 2 % 26 + at % 2 * 26 },
         };
         assert_eq!(judge(&wrong), Err(expected), "byte {at}");
     }

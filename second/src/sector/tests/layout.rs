@@ -63,12 +63,8 @@ fn every_byte_is_covered_once() {
 fn addresses() {
     assert!(address_in_range([0x00, 0x00, 0x00]));
     assert!(address_in_range([0x99, 0x59, 0x74]));
-    for refused in [
-        [0x00, 0x60, 0x00],
-        [0x00, 0x00, 0x75],
-        [0x0A, 0x00, 0x00],
-        [0xA0, 0x00, 0x00],
-    ] {
+    for refused in [[0x00, 0x60, 0x00], [0x00, 0x00, 0x75], [0x0A, 0x00, 0x00], [0xA0, 0x00, 0x00]]
+    {
         assert!(!address_in_range(refused));
     }
     // As many bytes pass at each place as there are numbers, and each passes as it is printed.
@@ -80,9 +76,8 @@ fn addresses() {
                 address_in_range(address)
             })
             .collect();
-        let printed: Vec<u8> = (0..bound)
-            .map(|n| u8::from_str_radix(&format!("{n:02}"), 16).unwrap())
-            .collect();
+        let printed: Vec<u8> =
+            (0..bound).map(|n| u8::from_str_radix(&format!("{n:02}"), 16).unwrap()).collect();
         assert_eq!(passing, printed);
     }
 }

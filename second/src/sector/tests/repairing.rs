@@ -40,11 +40,7 @@ fn a_wrong_byte_in_many_p_codewords_with_sync_and_q_parity_lost() {
         let mut wrong = sector.clone();
         wrong[..12].copy_from_slice(&random.bytes(12));
         wrong[2248..].copy_from_slice(&random.bytes(104));
-        let count = if round == 0 {
-            P_CODEWORDS
-        } else {
-            random.below(P_CODEWORDS)
-        };
+        let count = if round == 0 { P_CODEWORDS } else { random.below(P_CODEWORDS) };
         for n in random.places(count, P_CODEWORDS) {
             wrong[p_positions(n)[random.below(26)]] ^= random.change();
         }
@@ -105,26 +101,16 @@ fn faults_that_parity_cannot_see_are_refused() {
     };
     assert_eq!(repaired(&with_parity(&|_| ())), Ok((0, sector.clone())));
     assert_eq!(repaired(&with_parity(&|s| s[500] ^= 1)), Err(NoSectorNear));
-    assert_eq!(
-        repaired(&with_parity(&|s| s[2067] ^= 0x80)),
-        Err(NoSectorNear)
-    );
+    assert_eq!(repaired(&with_parity(&|s| s[2067] ^= 0x80)), Err(NoSectorNear));
     assert_eq!(repaired(&with_parity(&|s| s[2075] ^= 1)), Err(NoSectorNear));
 }
 
 #[test]
 fn wrong_addresses_are_refused_and_the_highest_is_not() {
     let sector = some_sector(&mut Random::new(8), 1);
-    for address in [
-        [0x00, 0x60, 0x00],
-        [0x00, 0x00, 0x75],
-        [0x0A, 0x00, 0x00],
-        [0xA0, 0x00, 0x00],
-    ] {
-        assert_eq!(
-            repaired(&sealed_with(&sector, 12, &address)),
-            Err(NoSectorNear)
-        );
+    for address in [[0x00, 0x60, 0x00], [0x00, 0x00, 0x75], [0x0A, 0x00, 0x00], [0xA0, 0x00, 0x00]]
+    {
+        assert_eq!(repaired(&sealed_with(&sector, 12, &address)), Err(NoSectorNear));
     }
     let highest = sealed_with(&sector, 12, &[0x99, 0x59, 0x74]);
     assert_eq!(repaired(&highest), Ok((0, highest)));

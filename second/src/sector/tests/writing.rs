@@ -40,12 +40,8 @@ fn addresses_accepted_and_refused() {
     let mut out = vec![0xAA; LENGTH];
     assert_eq!(write(1, [0x99, 0x59, 0x74], &[7; 2048], &mut out), Ok(()));
     assert_eq!(out[12..15], [0x99, 0x59, 0x74]);
-    for refused in [
-        [0x00, 0x60, 0x00],
-        [0x00, 0x00, 0x75],
-        [0x0A, 0x00, 0x00],
-        [0xA0, 0x00, 0x00],
-    ] {
+    for refused in [[0x00, 0x60, 0x00], [0x00, 0x00, 0x75], [0x0A, 0x00, 0x00], [0xA0, 0x00, 0x00]]
+    {
         out.fill(0xAA);
         assert_eq!(write(1, refused, &[7; 2048], &mut out), Err(WrongAddress));
         assert_eq!(out, [0; LENGTH]);
@@ -81,11 +77,8 @@ fn each_mode_takes_one_length_only() {
     let mut out = vec![0; LENGTH];
     for mode in 0..3 {
         for length in [0, 1, 2047, 2048, 2049, 2335, 2336, 2337] {
-            let expected = if Some(length) == data_length(mode) {
-                Ok(())
-            } else {
-                Err(WrongIncoming)
-            };
+            let expected =
+                if Some(length) == data_length(mode) { Ok(()) } else { Err(WrongIncoming) };
             assert_eq!(write(mode, ADDRESS, &vec![7; length], &mut out), expected);
         }
     }
