@@ -22,6 +22,14 @@ fn is_parity(row: usize) -> bool {
     (12..16).contains(&row) || (28..32).contains(&row)
 }
 
+fn turned(row: usize, byte: u8) -> u8 {
+    if is_parity(row) {
+        !byte
+    } else {
+        byte
+    }
+}
+
 /// All words at one point of the chain so far, the newest last.
 #[derive(Clone, Debug, Default, PartialEq, Eq)]
 struct History(Vec<Vec<u8>>);
@@ -75,7 +83,7 @@ impl CircWriter {
         self.c1.push(c1);
         for (row, out) in out.iter_mut().enumerate() {
             let byte = self.c1.byte(if row % 2 == 0 { 1 } else { 0 }, row);
-            *out = if is_parity(row) { !byte } else { byte };
+            *out = turned(row, byte);
         }
         Ok(())
     }
@@ -106,14 +114,7 @@ impl CircReader {
         if out.len() != 24 {
             return Err(WrongOutgoing);
         }
-        let turned = |row: usize| {
-            if is_parity(row) {
-                !frame[row]
-            } else {
-                frame[row]
-            }
-        };
-        self.f2.push((0..32).map(turned).collect());
+        self.f2.push((0..32).map(|row| turned(row, frame[row])).collect());
         let c1: Vec<u8> =
             (0..32).map(|row| self.f2.byte(if row % 2 == 0 { 0 } else { 1 }, row)).collect();
         self.after_c1.push(nearest(&c1, 4).unwrap_or(c1));

@@ -109,3 +109,39 @@ fn before_a_header_only_100_and_000() {
     }
     assert_eq!(offers(&digits("00100100100000"), &SYNC_HEADER), ["100", "000"]);
 }
+
+/// The bits from the third last ONE on: no rule looks further back.
+fn end_of(bits: &[u8]) -> Vec<u8> {
+    let ones: Vec<usize> = (0..bits.len()).filter(|&n| bits[n] == 1).collect();
+    bits[ones[ones.len().saturating_sub(3)]..].to_vec()
+}
+
+/// From a header on, by any allowed Merging bits, to all ends that can be reached: a word or a header can always follow.
+#[test]
+fn there_is_always_an_allowed_choice() {
+    let mut things: Vec<Vec<u8>> = words().iter().map(|word| word.to_vec()).collect();
+    things.push(SYNC_HEADER.to_vec());
+    let mut ends = vec![SYNC_HEADER.to_vec()];
+    let mut n = 0;
+    while n < ends.len() {
+        let written = ends[n].clone();
+        let mut following = things.clone();
+        if written == SYNC_HEADER {
+            following.pop();
+            following.extend([SYNC_0.to_vec(), SYNC_1.to_vec()]);
+        }
+        for thing in following {
+            assert!(!offers(&written, &thing).is_empty());
+            for merging in BEFORE_A_WORD {
+                if allowed(&written, merging, &thing) {
+                    let end = end_of(&[&written, merging.as_slice(), &thing].concat());
+                    if !ends.contains(&end) {
+                        ends.push(end);
+                    }
+                }
+            }
+        }
+        n += 1;
+    }
+    assert!(ends.len() > 100);
+}
