@@ -6,14 +6,13 @@ use crate::sector::LENGTH;
 /// The bytes that 12 to 2,351 of a Sector are added to, from the 15-bit register of Annex B: its lowest bit is sent, the
 /// sum of the lowest two comes in at the top. The first bit sent is the least significant of a byte.
 pub fn sequence() -> Vec<u8> {
-    let mut register = [false; 15];
-    register[0] = true;
+    let mut register = 0b000_0000_0000_0001;
     let mut bytes = vec![0; LENGTH - 12];
     for n in 0..8 * bytes.len() {
-        bytes[n / 8] |= (register[0] as u8) << (n % 8);
-        let fed_back = register[0] ^ register[1];
-        register.rotate_left(1);
-        register[14] = fed_back;
+        let sent = register & 1;
+        bytes[n / 8] |= (sent as u8) << (n % 8);
+        let fed_back = sent ^ (register >> 1 & 1);
+        register = register >> 1 | fed_back << 14;
     }
     bytes
 }

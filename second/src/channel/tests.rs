@@ -1,3 +1,5 @@
+//! Clause 19.
+
 mod choosing;
 mod reading;
 mod refusals;

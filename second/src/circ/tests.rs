@@ -1,3 +1,5 @@
+//! Clause 17 and Annex C.
+
 mod reading;
 mod writing;
 

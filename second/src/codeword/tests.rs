@@ -1,3 +1,5 @@
+//! Annexes A.3 and C.7: sums and parity.
+
 mod near;
 
 use super::*;

@@ -1,3 +1,5 @@
+//! Annex E: Merging bits allowed and chosen.
+
 use super::*;
 use crate::channel::merging::*;
 use words::digits;

@@ -1,3 +1,5 @@
+//! Document 01, Channel bits: whole Sections read.
+
 use super::*;
 
 fn some_section(seed: u64) -> (Vec<u8>, Vec<u8>, Vec<u8>) {

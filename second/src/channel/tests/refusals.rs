@@ -1,3 +1,5 @@
+//! Document 01, Numbers that come back: the Section writer.
+
 use super::*;
 
 fn refused(writer: SectionWriter) -> Option<Refusal> {

@@ -1,3 +1,5 @@
+//! Clause 19.4 and Annex E: whole Sections written.
+
 use super::*;
 use merging::{headers, keeps_the_run_rule, BEFORE_A_HEADER, BEFORE_A_WORD};
 

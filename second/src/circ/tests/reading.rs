@@ -1,3 +1,5 @@
+//! Annex C and document 01, CIRC: the reader.
+
 use super::*;
 
 /// What reading the frames must give if nothing is lost: zeros for 111 steps, then the frames, without doubt.

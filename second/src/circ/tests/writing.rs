@@ -1,3 +1,5 @@
+//! Annex C: the writer, against figure C.4.
+
 use super::*;
 use crate::codeword::is_codeword;
 

@@ -1,3 +1,5 @@
+//! Annexes A.3 and C.7: the codeword near a word.
+
 use super::*;
 
 /// `nearest` without any thought: each word that can be had by changing one byte, all its sums taken.

@@ -1,3 +1,5 @@
+//! Clause 14: judging, in document 01's order.
+
 use super::*;
 
 #[test]

@@ -1,3 +1,5 @@
+//! Clause 14.2 and Annex A: addresses, P and Q codewords.
+
 use super::*;
 use crate::codeword::sum;
 

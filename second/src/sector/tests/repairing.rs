@@ -1,3 +1,5 @@
+//! Annex A and document 01, P and Q: repair.
+
 use super::*;
 
 /// Repairs into a prefilled buffer, and checks that a refusal leaves zeros.

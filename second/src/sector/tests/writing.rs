@@ -1,3 +1,5 @@
+//! Clause 14: writing.
+
 use super::*;
 
 const ADDRESS: [u8; 3] = [0x12, 0x34, 0x56];
