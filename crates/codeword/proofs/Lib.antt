@@ -1,0 +1,5 @@
+pub mod Listed
+pub mod Search
+pub mod Faults
+pub mod Solved
+pub mod Moved

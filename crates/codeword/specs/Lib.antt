@@ -1,0 +1,17 @@
+pub mod Code
+pub mod Nearest
+pub mod Fault
+pub mod Parity
+pub mod Pair
+pub mod Sums
+pub mod Changes
+pub mod Twist
+pub mod Distance
+pub mod NearLaws
+pub mod NearestLaws
+pub mod FaultLaws
+pub mod Dot
+pub mod Forms
+pub mod Solve
+pub mod ParityLaws
+pub mod ParityExists
