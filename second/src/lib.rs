@@ -1,1 +1,12 @@
-//! An independent implementation, written from the documents, of what the proved crates compute.
+//! An independent implementation, written from ECMA-130 and document 01 in the plainest way: the peer of the proved crates in differential tests.
+
+pub mod channel;
+pub mod circ;
+pub mod codeword;
+pub mod edc;
+pub mod field;
+pub mod random;
+pub mod refusal;
+pub mod report;
+pub mod scrambling;
+pub mod sector;

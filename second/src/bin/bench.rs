@@ -1,0 +1,110 @@
+//! The benchmark: the time of each work as a ratio to the unit, one pass of a byte-table CRC-32 over 2,352 bytes, in the
+//! same run. A round times the unit and every work once, so that a slow spell meets all of them; medians are compared.
+
+use std::hint::black_box;
+use std::time::{Duration, Instant};
+
+const ROUNDS: usize = 31;
+const ROUND_TIME: Duration = Duration::from_millis(2);
+
+/// CRC-32 with the reflected polynomial (EDB88320), one look-up a byte.
+struct Crc([u32; 256]);
+
+impl Crc {
+    fn new() -> Crc {
+        let mut table = [0; 256];
+        for (byte, entry) in table.iter_mut().enumerate() {
+            let mut register = byte as u32;
+            for _ in 0..8 {
+                let low = register & 1;
+                register >>= 1;
+                if low == 1 {
+                    register ^= 0xEDB8_8320;
+                }
+            }
+            *entry = register;
+        }
+        Crc(table)
+    }
+
+    fn pass(&self, bytes: &[u8]) -> u32 {
+        let mut register = !0;
+        for &byte in bytes {
+            register = register >> 8 ^ self.0[(register as u8 ^ byte) as usize];
+        }
+        !register
+    }
+}
+
+struct Work {
+    name: &'static str,
+    /// The most units that it may take, where a target is set.
+    most: Option<f64>,
+    once: Box<dyn FnMut()>,
+    /// How many times it is done in a round.
+    passes: u32,
+    /// Seconds that one pass took, round by round.
+    times: Vec<f64>,
+}
+
+impl Work {
+    fn new(name: &'static str, most: Option<f64>, once: impl FnMut() + 'static) -> Work {
+        let mut work = Work { name, most, once: Box::new(once), passes: 1, times: Vec::new() };
+        while work.round() < ROUND_TIME {
+            work.passes *= 2;
+        }
+        work
+    }
+
+    fn round(&mut self) -> Duration {
+        let start = Instant::now();
+        for _ in 0..self.passes {
+            (self.once)();
+        }
+        start.elapsed()
+    }
+
+    fn median(&self) -> f64 {
+        let mut times = self.times.clone();
+        times.sort_by(f64::total_cmp);
+        times[times.len() / 2]
+    }
+}
+
+/// The unit first, then what is held against it.
+fn works() -> Vec<Work> {
+    let sector: Vec<u8> = (0..2352).map(|n| (n * 7) as u8).collect();
+    let crc = Crc::new();
+    let unit = move || {
+        black_box(crc.pass(black_box(&sector)));
+    };
+    vec![Work::new("unit: CRC-32 by a byte table, 2,352 bytes", None, unit)]
+}
+
+fn main() {
+    let mut works = works();
+    for _ in 0..ROUNDS {
+        for work in &mut works {
+            let time = work.round().as_secs_f64() / work.passes as f64;
+            work.times.push(time);
+        }
+    }
+    let unit = works[0].median();
+    println!("one unit is {:.2} µs, the median of {ROUNDS} rounds", unit * 1e6);
+    println!("{:>8} {:>8}  work", "units", "at most");
+    for work in &works {
+        let most = work.most.map_or(String::new(), |most| format!("{most:.2}"));
+        println!("{:>8.2} {most:>8}  {}", work.median() / unit, work.name);
+    }
+}
+
+#[cfg(test)]
+mod tests {
+    use super::*;
+
+    /// The published check value of CRC-32.
+    #[test]
+    fn check_value() {
+        assert_eq!(Crc::new().pass(b"123456789"), 0xCBF4_3926);
+    }
+}

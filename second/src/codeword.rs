@@ -1,0 +1,91 @@
+//! ECMA-130, Annexes A.3 and C.7: the check sums of a codeword, the codeword near a word, and parity.
+
+use crate::field::{inverse, power, product};
+
+/// What the byte at `place` of a word of `length` bytes is multiplied by in sum `j`: α^(j(k-1-i)).
+pub fn weight(j: usize, place: usize, length: usize) -> u8 {
+    power(j * (length - 1 - place))
+}
+
+pub fn sum(j: usize, word: &[u8]) -> u8 {
+    let mut sum = 0;
+    for (place, &byte) in word.iter().enumerate() {
+        sum ^= product(byte, weight(j, place, word.len()));
+    }
+    sum
+}
+
+/// Sums 0 to `sums` - 1 are all 0.
+pub fn is_codeword(word: &[u8], sums: usize) -> bool {
+    (0..sums).all(|j| sum(j, word) == 0)
+}
+
+#[derive(Clone, Copy, Debug, PartialEq, Eq)]
+pub enum Verdict {
+    /// The word is a codeword.
+    Clean,
+    /// It becomes one if the byte at `place` becomes `value`.
+    Change { place: usize, value: u8 },
+    /// No codeword is near, or the word is longer than 255 bytes, where weights repeat.
+    Lost,
+}
+
+/// Tries the word itself and then each change of each place. A change adds itself times the place's weight to each sum.
+pub fn verdict(word: &[u8], sums: usize) -> Verdict {
+    if word.len() > 255 {
+        return Verdict::Lost;
+    }
+    let found: Vec<u8> = (0..sums).map(|j| sum(j, word)).collect();
+    if found.iter().all(|&s| s == 0) {
+        return Verdict::Clean;
+    }
+    for place in 0..word.len() {
+        let weights: Vec<u8> = (0..sums).map(|j| weight(j, place, word.len())).collect();
+        for change in 1..=255 {
+            if (0..sums).all(|j| found[j] ^ product(change, weights[j]) == 0) {
+                return Verdict::Change { place, value: word[place] ^ change };
+            }
+        }
+    }
+    Verdict::Lost
+}
+
+/// The codeword that differs from the word in at most one byte.
+pub fn nearest(word: &[u8], sums: usize) -> Option<Vec<u8>> {
+    let mut near = word.to_vec();
+    match verdict(word, sums) {
+        Verdict::Clean => {}
+        Verdict::Change { place, value } => near[place] = value,
+        Verdict::Lost => return None,
+    }
+    Some(near)
+}
+
+/// Sets `count` successive bytes so that as many sums are 0, by elimination. No rows need be exchanged: the weights are
+/// the powers of `count` different bytes, and so are those of the first rows and columns.
+pub fn fill(word: &mut [u8], start: usize, count: usize) {
+    let places = start..start + count;
+    word[places.clone()].fill(0);
+    let mut rows: Vec<Vec<u8>> = Vec::new();
+    for j in 0..count {
+        let mut row: Vec<u8> = places.clone().map(|place| weight(j, place, word.len())).collect();
+        row.push(sum(j, word));
+        rows.push(row);
+    }
+    for column in 0..count {
+        let by = inverse(rows[column][column]).expect("the weights differ");
+        let pivot: Vec<u8> = rows[column].iter().map(|&x| product(x, by)).collect();
+        for (j, row) in rows.iter_mut().enumerate() {
+            let times = row[column];
+            for (x, &p) in row.iter_mut().zip(&pivot) {
+                *x = if j == column { p } else { *x ^ product(p, times) };
+            }
+        }
+    }
+    for (row, place) in rows.iter().zip(places) {
+        word[place] = row[count];
+    }
+}
+
+#[cfg(test)]
+mod tests;

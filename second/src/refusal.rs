@@ -1,0 +1,97 @@
+//! Document 01, Numbers that come back.
+
+#[derive(Clone, Copy, Debug, PartialEq, Eq)]
+pub enum Refusal {
+    WrongIncoming,
+    WrongOutgoing,
+    WrongMode,
+    WrongAddress,
+    NoSectorNear,
+    SectionsUsedUp,
+    NoSyncHeader { frame: usize },
+    WrongState,
+    WrongSync,
+    WrongEdc,
+    WrongIntermediate,
+    WrongP { codeword: usize },
+    WrongQ { codeword: usize },
+    WrongFiller,
+}
+
+use Refusal::*;
+
+impl Refusal {
+    /// The number in the table of document 01.
+    pub fn number(self) -> u8 {
+        match self {
+            WrongIncoming => 1,
+            WrongOutgoing => 2,
+            WrongMode => 3,
+            WrongAddress => 4,
+            NoSectorNear => 5,
+            SectionsUsedUp => 7,
+            NoSyncHeader { .. } => 8,
+            WrongState => 9,
+            WrongSync => 10,
+            WrongEdc => 11,
+            WrongIntermediate => 12,
+            WrongP { .. } => 13,
+            WrongQ { .. } => 14,
+            WrongFiller => 15,
+        }
+    }
+
+    /// The value that comes with 8, 13 and 14; no other number has one.
+    pub fn value(self) -> Option<usize> {
+        match self {
+            NoSyncHeader { frame } => Some(frame),
+            WrongP { codeword } | WrongQ { codeword } => Some(codeword),
+            _ => None,
+        }
+    }
+}
+
+/// What a refusal does to an outgoing buffer: zeros if its length is right, else nothing.
+pub fn clear(out: &mut [u8], right: usize) {
+    if out.len() == right {
+        out.fill(0);
+    }
+}
+
+#[cfg(test)]
+mod tests {
+    use super::*;
+
+    #[test]
+    fn only_a_buffer_of_the_right_length_is_cleared() {
+        let mut buffer = [0xAA; 5];
+        clear(&mut buffer, 4);
+        assert_eq!(buffer, [0xAA; 5]);
+        clear(&mut buffer, 5);
+        assert_eq!(buffer, [0; 5]);
+    }
+
+    #[test]
+    fn numbers_differ_and_three_have_a_value() {
+        let all = [
+            WrongIncoming,
+            WrongOutgoing,
+            WrongMode,
+            WrongAddress,
+            NoSectorNear,
+            SectionsUsedUp,
+            NoSyncHeader { frame: 97 },
+            WrongState,
+            WrongSync,
+            WrongEdc,
+            WrongIntermediate,
+            WrongP { codeword: 85 },
+            WrongQ { codeword: 51 },
+            WrongFiller,
+        ];
+        let numbers: Vec<u8> = all.iter().map(|r| r.number()).collect();
+        assert_eq!(numbers, [1, 2, 3, 4, 5, 7, 8, 9, 10, 11, 12, 13, 14, 15]);
+        let values: Vec<usize> = all.iter().filter_map(|r| r.value()).collect();
+        assert_eq!(values, [97, 85, 51]);
+    }
+}

@@ -1,0 +1,34 @@
+//! Document 01, P and Q: repair of a Mode 01 Sector.
+
+use super::*;
+use crate::codeword::nearest;
+
+/// The only Sector that can be the one wanted: each P codeword mended, sync set, Q parity worked out afresh.
+fn mended(received: &[u8]) -> Option<Vec<u8>> {
+    let mut sector = received.to_vec();
+    for n in 0..P_CODEWORDS {
+        let positions = p_positions(n);
+        let word = nearest(&take(&sector, &positions), 2)?;
+        put(&mut sector, &positions, &word);
+    }
+    sector[..12].copy_from_slice(&SYNC);
+    (0..Q_CODEWORDS).for_each(|n| set_parity(&mut sector, &q_positions(n)));
+    let correct = matches!(judge(&sector), Ok(Passed { mode: 1, .. }));
+    correct.then_some(sector)
+}
+
+/// The changed count. Refusals 1, 2, 5.
+pub fn repair(received: &[u8], out: &mut [u8]) -> Result<usize, Refusal> {
+    clear(out, LENGTH);
+    if received.len() != LENGTH {
+        return Err(WrongIncoming);
+    }
+    if out.len() != LENGTH {
+        return Err(WrongOutgoing);
+    }
+    let Some(sector) = mended(received) else {
+        return Err(NoSectorNear);
+    };
+    out.copy_from_slice(&sector);
+    Ok((0..LENGTH).filter(|&at| received[at] != sector[at]).count())
+}
