@@ -7,13 +7,14 @@ use Prim.Native.Nat.{ℕ, zero, suc, _+_, _≤_, _<_}
 use native.Mathlib.Omega.{arith}
 use lib.Bits.{bitXor}
 use lib.ListN.{length, getD, take}
-use Rattle.outcome.specs.Bytes.{Bytes}
+use Rattle.outcome.specs.Bytes.{Bytes, bytes-take}
 use Rattle.outcome.specs.First.{First, firstBelow, found-first}
-use Rattle.field.specs.Field.{timesAlpha}
+use Rattle.field.specs.Field.{timesAlpha, power, mul}
+use Rattle.field.specs.Laws.{mul-power-suc}
 use Rattle.codeword.specs.Code.{sum, Codeword}
 use Rattle.codeword.specs.Nearest.{isCodeword}
-use Rattle.codeword.specs.NearestLaws.{code-of-test, test-of-code}
-use Rattle.codeword.specs.Sums.{sum-none, sum-step, sum-all, times-0, times-1}
+use Rattle.codeword.specs.NearLaws.{code-of-test, test-of-code}
+use Rattle.codeword.specs.Sums.{sum-lt, sum-none, sum-step, sum-all, times-0}
 
 -- the sums of the first r bytes of w
 pub record Summing (w : List ℕ) (r s0 s1 : ℕ) : Type 0 where
@@ -23,13 +24,17 @@ pub record Summing (w : List ℕ) (r s0 s1 : ℕ) : Type 0 where
 pub summing-none : (w : List ℕ) → Summing w 0 0 0
 summing-none w = record { first = sym (sum-none 0 w); second = sym (sum-none 1 w) }
 
+-- a byte times α is that byte times its first power
+alpha-is : (x : ℕ) → x < 256 → timesAlpha x ≡ mul x (power 1)
+alpha-is x h = sym (mul-power-suc x 0 h ∙ ap timesAlpha (times-0 x))
+
 module _ (w : List ℕ) {r s0 s1 : ℕ} (g : Summing w r s0 s1) where
   -- one byte more: z is the second sum times α
   pub summing-more : (b : ℕ) {z : ℕ} → Bytes w → r < length w → b ≡ getD w r 0 → z ≡ timesAlpha s1 → Summing w (r + 1) (bitXor s0 b) (bitXor z b)
   summing-more b {z} h l e f =
       record {
-        first = ap (bitXor s0) e ∙ sum-step 0 w r h l (g .first) (λ _. sym (times-0 s0));
-        second = ap (bitXor z) e ∙ sum-step 1 w r h l (g .second) (λ k. f ∙ sym (times-1 s1 k)) }
+        first = ap (bitXor s0) e ∙ sum-step 0 w r h l (g .first) (sym (times-0 s0));
+        second = ap (bitXor z) e ∙ sum-step 1 w r h l (g .second) (f ∙ alpha-is s1 (omega (arith, g .second, sum-lt 1 (take r w) (bytes-take r w h)))) }
 
   module _ (n : ℕ) (long : length w ≡ n) (all : n ≤ r) where
     first-all : s0 ≡ sum 0 w

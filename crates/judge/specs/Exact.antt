@@ -14,7 +14,7 @@ use Rattle.outcome.specs.Bytes.{Bytes}
 use Rattle.outcome.specs.First.{First, firstBelow, first-below}
 use Rattle.codeword.specs.Code.{Codeword}
 use Rattle.codeword.specs.Nearest.{isCodeword}
-use Rattle.codeword.specs.NearestLaws.{code-of-test, test-of-code}
+use Rattle.codeword.specs.NearLaws.{code-of-test, test-of-code}
 use Rattle.edc.specs.Bits.{bits}
 use Rattle.edc.specs.Edc.{remainder, isZero, Divisible}
 use Rattle.edc.specs.Zero.{test-divisible, divisible-test}

@@ -11,7 +11,7 @@ use lib.ListN.{length, take}
 use Rattle.outcome.specs.Bytes.{Bytes}
 use Rattle.outcome.specs.Table.{and-left, and-right, and-both, true-of, of-true}
 use Rattle.codeword.specs.Code.{Codeword, Near}
-use Rattle.codeword.specs.NearestLaws.{near-unique}
+use Rattle.codeword.specs.NearLaws.{near-unique}
 use Rattle.edc.specs.Bits.{bits}
 use Rattle.edc.specs.Edc.{remainder, isZero}
 use Rattle.edc.specs.Zero.{test-divisible, divisible-test}
@@ -110,3 +110,8 @@ pub candidate-alone : (r s : List ℕ) → Candidate r s → rules s ≡ false �
 candidate-alone r s c e t g =
     let q : rules s ≡ true = subst (λ (x : List ℕ). rules x ≡ true) (sought-candidate r s t c g) (sought-rules r t g) in
     let z : _≡_ {A = ℕ} 0 1 = cc in omega arith
+
+-- what was found for r: a candidate if each P codeword has one near, and else nothing can be sought
+pub record FoundFor (r : List ℕ) (near : Bool) (s : List ℕ) : Type 0 where
+  pub candidate : near ≡ true → Bytes s → Candidate r s
+  pub nothing : near ≡ false → (t : List ℕ) → Sought r t → ⊥

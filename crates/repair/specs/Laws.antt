@@ -8,7 +8,7 @@ use lib.ListN.{length, replicate}
 use Rattle.outcome.specs.Say.{Say, done, refused, cleared, cleared-right}
 use Rattle.codeword.specs.Code.{Codeword, changes, Near}
 use Rattle.codeword.specs.Changes.{changes-self, changes-none}
-use Rattle.codeword.specs.NearestLaws.{near-unique}
+use Rattle.codeword.specs.NearLaws.{near-unique}
 use Rattle.rspc.specs.Words.{pWord}
 use Rattle.rspc.specs.Cover.{length-p, p-covers}
 use Rattle.rspc.specs.Parity.{bytes-p}

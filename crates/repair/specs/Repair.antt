@@ -8,6 +8,8 @@ use Rattle.outcome.specs.Say.{Say, done, refused, cleared}
 use Rattle.codeword.specs.Code.{changes}
 use Rattle.rspc.specs.Words.{pWord}
 use Rattle.sector.specs.Correct.{CorrectMode01}
+use Rattle.repair.specs.declared.Repaired.{Repaired}
+use Rattle.repair.specs.declared.Repaired.the-variants.{HandedOut, WrongIncoming, WrongOutgoing, NoSectorNear}
 
 -- s differs from what came in, r, in at most one byte of each P codeword; Sync and Q parity are in none, so they do not count
 abbrev pub NearP : List ℕ → List ℕ → Type 0
@@ -25,3 +27,10 @@ pub data Repairs (r old : List ℕ) : Say → List ℕ → Type 0 where
   wrong-outgoing : length r ≡ 2352 → (length old ≡ 2352 → ⊥) → Repairs r old (refused 2 []) (cleared 2352 old)
   none-near : length r ≡ 2352 → length old ≡ 2352 → ((s : List ℕ) → Sought r s → ⊥) → Repairs r old (refused 5 []) (cleared 2352 old)
   handed-out : {s : List ℕ} → length r ≡ 2352 → length old ≡ 2352 → Sought r s → Repairs r old (done (changes r s ∷ [])) s
+
+-- document 01's number and values for each answer
+abbrev pub sayOf : Repaired → Say
+sayOf (HandedOut changed) = done (changed ∷ [])
+sayOf WrongIncoming = refused 1 []
+sayOf WrongOutgoing = refused 2 []
+sayOf NoSectorNear = refused 5 []
