@@ -34,7 +34,8 @@ module _ (w : List ℕ) {r s0 s1 : ℕ} (g : Summing w r s0 s1) where
   summing-more b {z} h l e f =
       record {
         first = ap (bitXor s0) e ∙ sum-step 0 w r h l (g .first) (sym (times-0 s0));
-        second = ap (bitXor z) e ∙ sum-step 1 w r h l (g .second) (f ∙ alpha-is s1 (omega (arith, g .second, sum-lt 1 (take r w) (bytes-take r w h)))) }
+        second = ap (bitXor z) e ∙ sum-step 1 w r h l (g .second) (f ∙ alpha-is s1 (omega (arith, g .second, sum-lt 1 (take r w) (bytes-take r w h))));
+      }
 
   module _ (n : ℕ) (long : length w ≡ n) (all : n ≤ r) where
     first-all : s0 ≡ sum 0 w

@@ -91,13 +91,15 @@ mode01-sound s e =
     let a = demanded (isZero (remainder (bits (take 2068 s)))) 11 _ e in
     let b = demanded (same (bytesFrom 2068 8 s) (zeros 8)) 12 _ (a .1) in
     let p = demanded-each P s 13 _ (b .1) in
-    let q = demanded-each Q s 14 _ (p .1) in
-    (record {
-       edc = test-divisible (take 2068 s) (a .0);
-       intermediate = same-equal (bytesFrom 2068 8 s) (zeros 8) (b .0);
-       p = λ n h. code-of (pWord s n) (p .0 n h);
-       q = λ n h. code-of (qWord s n) (q .0 n h) },
-     sym (q .1))
+    let q = demanded-each Q s 14 _ (p .1) in (
+      record {
+        edc = test-divisible (take 2068 s) (a .0);
+        intermediate = same-equal (bytesFrom 2068 8 s) (zeros 8) (b .0);
+        p = λ n h. code-of (pWord s n) (p .0 n h);
+        q = λ n h. code-of (qWord s n) (q .0 n h);
+      },
+      sym (q .1),
+    )
 
 mode01-complete : (s : List ℕ) → Protected s → judgingMode01 s ≡ passing 1 (timeOf s)
 unfolding judgingMode01
@@ -135,17 +137,20 @@ judge-sound s h e =
     let c = demanded (leb (modeOf s) 2) 3 _ (b .1) in
     let d = demanded (inRange (timeOf s)) 4 _ (c .1) in
     let k : modeOf s ≤ 2 = leb-true (modeOf s) 2 (c .0) in
-    let m = mode-sound s (modeOf s) k (d .1) in
-    (record {
-       head = record {
-         long = eqb-true (length s) 2352 (a .0);
-         bytes = h;
-         synced = same-equal (take 12 s) sync (b .0);
-         addressed = d .0 };
-       known = k;
-       mode00 = m .0;
-       mode01 = m .1 },
-     m .2)
+    let m = mode-sound s (modeOf s) k (d .1) in (
+      record {
+        head = record {
+          long = eqb-true (length s) 2352 (a .0);
+          bytes = h;
+          synced = same-equal (take 12 s) sync (b .0);
+          addressed = d .0;
+        };
+        known = k;
+        mode00 = m .0;
+        mode01 = m .1;
+      },
+      m .2,
+    )
 
 -- what is correct passes
 pub judge-complete : (s : List ℕ) → Correct s → judging s ≡ passing (modeOf s) (timeOf s)

@@ -5,7 +5,6 @@ ghost use Rattle.outcome.specs.First.{firstBelow};
 ghost use Prim.Native.Nat.{_<_};
 ghost use Rattle.sector.specs.Layout.{timeOf};
 ghost use Rattle.judge.specs.Judging.{wordsOf, rowsOf, placeOf, failing, judgingMode01, judgingMode00, byMode, judging, sayOf};
-
 use address::HeaderTime;
 
 pub enum Judged {

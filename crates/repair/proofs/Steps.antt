@@ -44,15 +44,15 @@ module _ (r : List ℕ) (bytes : Bytes r) where
   unfolding pNear
   passed-near t p e n h =
       subst (λ (w : List ℕ). Near 2 (pWord r n) w) (sym (p .words n h))
-        (found-near (pWord r n) (bytes-p r n bytes) (below (λ n. isFound (nearest 2 (pWord r n))) 86 (of-true _ e) n h))
+      (found-near (pWord r n) (bytes-p r n bytes) (below (λ n. isFound (nearest 2 (pWord r n))) 86 (of-true _ e) n h))
 
   -- it did not find all: then nothing is sought
   not-all : pNear r ≡ false → (s : List ℕ) → Sought r s → ⊥
   unfolding pNear
   not-all e s g =
       let t : pNear r ≡ true =
-            true-of _ (all-below (λ n. isFound (nearest 2 (pWord r n))) 86
-              (λ n h. near-found (pWord r n) (pWord s n) (bytes-p r n bytes) (omega (arith, length-p r n)) (sought-near r s g n h))) in
+      true-of _ (all-below (λ n. isFound (nearest 2 (pWord r n))) 86
+      (λ n h. near-found (pWord r n) (pWord s n) (bytes-p r n bytes) (omega (arith, length-p r n)) (sought-near r s g n h))) in
       let z : _≡_ {A = ℕ} 0 1 = cc in omega arith
 
 -- ---- the steps
@@ -81,8 +81,10 @@ found-for r t p v near k bytes l pass e put =
         bytes = b;
         synced = sym (take-take 12 2248 v (omega arith)) ∙ ap (take 12) (whole .before) ∙ take-take 12 2248 (p ++ drop 12 t) (omega arith) ∙ take-at p (drop 12 t) 12 (ap length e) ∙ e;
         p = λ m h. subst (λ (w : List ℕ). Near 2 (pWord r m) w) (p-same t v m h covered) (passed-near r bytes t passed (sym told ∙ n) m h);
-        q = whole .words };
-      nothing = λ n. not-all r bytes (sym told ∙ n) }
+        q = whole .words;
+      };
+      nothing = λ n. not-all r bytes (sym told ∙ n);
+    }
   where
     told : near ≡ pNear r
     told = pass .sector l .0

@@ -40,5 +40,5 @@ module _ (r old new : List ℕ) where
       on-found nr k e n c =
           let same : new ≡ s = same-lengths k (length s) (length old) new s old e (the-candidate .long ∙ sym lo) in
           subst (λ (x : List ℕ). Repairs r old (done (n ∷ [])) x) (sym same)
-            (subst (λ (m : ℕ). Repairs r old (done (m ∷ [])) s) (sym c)
-              (handed-out lr lo (candidate-sought r s the-candidate (sym (g .0) ∙ not-false right nr))))
+          (subst (λ (m : ℕ). Repairs r old (done (m ∷ [])) s) (sym c)
+          (handed-out lr lo (candidate-sought r s the-candidate (sym (g .0) ∙ not-false right nr))))

@@ -65,7 +65,8 @@ right-rules s e =
       mode = eqb-true (modeOf s) 1 (true-of a (and-left a (b && (c && d)) t));
       addressed = true-of b (and-left b (c && d) u);
       edc = true-of c (and-left c d v);
-      intermediate = true-of d (and-right c d v) }
+      intermediate = true-of d (and-right c d v);
+    }
 
 -- a candidate that keeps these rules is sought
 pub candidate-sought : (r s : List ℕ) → Candidate r s → rules s ≡ true → Sought r s
@@ -81,29 +82,34 @@ candidate-sought r s c e =
             edc = test-divisible (take 2068 s) (g .edc);
             intermediate = same-equal (bytesFrom 2068 8 s) (zeros 8) (g .intermediate);
             p = λ n h. c .p n h .code;
-            q = c .q } };
-        mode = g .mode };
-      near = λ n h. c .p n h .close }
+            q = c .q;
+          };
+        };
+        mode = g .mode;
+      };
+      near = λ n h. c .p n h .close;
+    }
 
 -- and whatever is sought is the candidate
 pub sought-candidate : (r s t : List ℕ) → Candidate r s → Sought r t → t ≡ s
 sought-candidate r s t c g =
     let h = g .correct .correct .head in
     let covered =
-          p-covers t s
-            (λ n l. near-unique 2 (pWord r n) (pWord t n) (pWord s n) (omega arith) (omega (arith, length-p r n)) (sought-near r t g n l) (c .p n l)) in
+    p-covers t s
+    (λ n l. near-unique 2 (pWord r n) (pWord t n) (pWord s n) (omega arith) (omega (arith, length-p r n)) (sought-near r t g n l) (c .p n l)) in
     whole t s (h .long) (c .long) (h .synced ∙ sym (c .synced)) covered
-      (q-one t s (h .bytes) (c .bytes) covered (g .correct .correct .mode01 (g .correct .mode) .q) (c .q))
+    (q-one t s (h .bytes) (c .bytes) covered (g .correct .correct .mode01 (g .correct .mode) .q) (c .q))
 
 sought-rules : (r t : List ℕ) → Sought r t → rules t ≡ true
 sought-rules r t g =
     let p = g .correct .correct .mode01 (g .correct .mode) in
     rules-right t
-      (record {
-        mode = g .correct .mode;
-        addressed = g .correct .correct .head .addressed;
-        edc = divisible-test (take 2068 t) (p .edc);
-        intermediate = equal-same (bytesFrom 2068 8 t) (zeros 8) (p .intermediate) })
+    (record {
+      mode = g .correct .mode;
+      addressed = g .correct .correct .head .addressed;
+      edc = divisible-test (take 2068 t) (p .edc);
+      intermediate = equal-same (bytesFrom 2068 8 t) (zeros 8) (p .intermediate);
+    })
 
 -- so where the candidate breaks one of these rules nothing is sought
 pub candidate-alone : (r s : List ℕ) → Candidate r s → rules s ≡ false → (t : List ℕ) → Sought r t → ⊥

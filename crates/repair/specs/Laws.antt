@@ -23,14 +23,15 @@ sought-near r s g n h =
       long = length-p s n ∙ sym (length-p r n);
       bytes = bytes-p s n (g .correct .correct .head .bytes);
       close = g .near n h;
-      code = g .correct .correct .mode01 (g .correct .mode) .p n h }
+      code = g .correct .correct .mode01 (g .correct .mode) .p n h;
+    }
 
 -- at most one Sector is sought
 pub sought-one : (r s t : List ℕ) → Sought r s → Sought r t → s ≡ t
 sought-one r s t g h =
     covered-one s t (g .correct) (h .correct)
-      (p-covers s t
-        (λ n l. near-unique 2 (pWord r n) (pWord s n) (pWord t n) (omega arith) (omega (arith, length-p r n)) (sought-near r s g n l) (sought-near r t h n l)))
+    (p-covers s t
+    (λ n l. near-unique 2 (pWord r n) (pWord s n) (pWord t n) (omega arith) (omega (arith, length-p r n)) (sought-near r s g n l) (sought-near r t h n l)))
 
 -- two outcomes that the promise allows coincide, the buffer included
 pub repair-one : (r old : List ℕ) {a b : Say} {s t : List ℕ} → Repairs r old a s → Repairs r old b t → (a ≡ b) × (s ≡ t)

@@ -8,7 +8,6 @@ ghost use Rattle.codeword.specs.Code.{changes};
 ghost use Rattle.outcome.specs.Bytes.{Bytes};
 ghost use Rattle.repair.specs.Repair.{Repairs, sayOf};
 ghost use Rattle.repair.specs.Candidate.{rules, FoundFor};
-
 use address::HeaderTime;
 
 // What becomes of a Sector: it is handed out with the count of changed bytes, or refused.

@@ -26,4 +26,4 @@ covered-one s t cs ct same =
     let hs = cs .correct .head in
     let ht = ct .correct .head in
     whole s t (hs .long) (ht .long) (hs .synced ∙ sym (ht .synced)) same
-      (q-one s t (hs .bytes) (ht .bytes) same (cs .correct .mode01 (cs .mode) .q) (ct .correct .mode01 (ct .mode) .q))
+    (q-one s t (hs .bytes) (ht .bytes) same (cs .correct .mode01 (cs .mode) .q) (ct .correct .mode01 (ct .mode) .q))

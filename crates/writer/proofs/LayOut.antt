@@ -48,8 +48,8 @@ module _ (mode : ℕ) (time : HeaderTime) {b f : List ℕ} (blank : b ≡ zeros 
 
   pub user-copied : (r : Bool) (p q user : List ℕ) → p ≡ f → length user ≤ 2336
       → (r ≡ eqb (length user) (length (midOf 16 (16 + length user - 16) (p ++ drop 16 b))))
-        × (q ≡ cond r user (midOf 16 (16 + length user - 16) (p ++ drop 16 b)))
+      × (q ≡ cond r user (midOf 16 (16 + length user - 16) (p ++ drop 16 b)))
       → q ≡ user
   user-copied r p q user e h g =
       same-lengths r (length user) (length (midOf 16 (16 + length user - 16) (p ++ drop 16 b))) q user (midOf 16 (16 + length user - 16) (p ++ drop 16 b)) g
-        (omega (arith, mid-len 16 (16 + length user) (p ++ drop 16 b) (user-fits p user e h)))
+      (omega (arith, mid-len 16 (16 + length user) (p ++ drop 16 b) (user-fits p user e h)))

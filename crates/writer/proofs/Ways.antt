@@ -1,15 +1,19 @@
 -- The ways out of the writer, each with the tests that lead to it: the order 2, 3, 1, 4.
 -- Assumes nothing.
 use mathlib.Core.Path.{_≡_, refl, sym, ap, _∙_, subst}
-use mathlib.Core.Bool.{Bool, true, false, not}
+use mathlib.Core.Bool.{Bool, true, false, not, cond}
 use mathlib.Core.List.{List, []}
 use Prim.Native.Nat.{ℕ, _≤_, _<_}
 use borrow.Author.Tests.{eq-eqb, ne-eqb, le-leb, lt-leb, not-true, not-false}
+use lib.Dec.{eqb}
 use lib.ListN.{length}
 use Rattle.outcome.specs.Say.{Say, done, refused, cleared, cleared-wrong}
+use Rattle.outcome.specs.Bytes.{Bytes}
+use Rattle.outcome.specs.Lengths.{same-lengths}
 use Rattle.address.specs.Address.{inRange}
 use Rattle.address.specs.declared.HeaderTime.{HeaderTime}
 use Rattle.sector.specs.Layout.{userLength}
+use Rattle.writer.specs.Make.{Makes}
 use Rattle.writer.specs.Write.{Asked, says, Writes, refuses, writes}
 
 module _ (mode : ℕ) (time : HeaderTime) (user old : List ℕ) where
@@ -34,7 +38,10 @@ module _ (mode : ℕ) (time : HeaderTime) (user old : List ℕ) where
             let t = sym hr ∙ not-true r n in
             refused-so 4 new (simp (eq-eqb (length old) 2352 l, le-leb mode 2 m, eq-eqb (length user) (userLength mode) (u ∙ hk), t)) z
 
-        pub on-done : not r ≡ false → Asked mode time user new → Writes mode time user old (done []) new
-        on-done n a =
+        pub on-done : not r ≡ false → (s : List ℕ) → Makes mode time user s → (c : Bool) → (c ≡ eqb (length s) (length old)) × (new ≡ cond c s old) → Bytes new
+            → Writes mode time user old (done []) new
+        on-done n s g c e b =
             let t = sym hr ∙ not-false r n in
-            writes (simp (eq-eqb (length old) 2352 l, le-leb mode 2 m, eq-eqb (length user) (userLength mode) (u ∙ hk), t)) a
+            let same : new ≡ s = same-lengths c (length s) (length old) new s old e (g .long ∙ sym l) in
+            writes (simp (eq-eqb (length old) 2352 l, le-leb mode 2 m, eq-eqb (length user) (userLength mode) (u ∙ hk), t))
+            (subst (λ (x : List ℕ). Asked mode time user x) (sym same) (g .asked (subst (λ (x : List ℕ). Bytes x) same b)))

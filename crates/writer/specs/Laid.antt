@@ -40,12 +40,13 @@ fronted-same mode time n s t l e f =
     record {
       synced = sym (take-take 12 n s (omega arith)) ∙ ap (take 12) e ∙ take-take 12 n t (omega arith) ∙ f .synced;
       has-time = (λ i. record { 0 = at 12 (omega arith) i; 1 = at 13 (omega arith) i; 2 = at 14 (omega arith) i }) ∙ f .has-time;
-      has-mode = at 15 (omega arith) ∙ f .has-mode }
+      has-mode = at 15 (omega arith) ∙ f .has-mode;
+    }
   where
     at : (i : ℕ) → i < 16 → getD s i 0 ≡ getD t i 0
     at i h = sym (getD-take n s i 0 (omega arith)) ∙ ap (λ (w : List ℕ). getD w i 0) e ∙ getD-take n t i 0 (omega arith)
 
-drop-take : (a n : ℕ) (w : List ℕ) → drop a (take (a + n) w) ≡ take n (drop a w)
+pub drop-take : (a n : ℕ) (w : List ℕ) → drop a (take (a + n) w) ≡ take n (drop a w)
 drop-take zero n w = ap (λ (m : ℕ). take m w) (zero-add n)
 drop-take (suc a) n [] = ap (λ (m : ℕ). drop (suc a) (take m [])) (suc-add a n) ∙ sym (take-nil n)
 drop-take (suc a) n (x ∷ w) = ap (λ (m : ℕ). drop (suc a) (take m (x ∷ w))) (suc-add a n) ∙ drop-take a n w
@@ -60,12 +61,14 @@ module _ (mode : ℕ) (time : HeaderTime) (user : List ℕ) (known : mode ≤ 2)
           head = record { long = l; bytes = b; synced = f .synced; addressed = ap inRange (f .has-time) ∙ range };
           known = subst (λ (m : ℕ). m ≤ 2) (sym (f .has-mode)) known;
           mode00 = λ z. e (sym (f .has-mode) ∙ z);
-          mode01 = λ z. p (sym (f .has-mode) ∙ z) };
+          mode01 = λ z. p (sym (f .has-mode) ∙ z);
+        };
         has-mode = f .has-mode;
         has-time = f .has-time;
-        has-user = ap (λ (n : ℕ). bytesFrom 16 n s) (ap userLength (f .has-mode)) ∙ u }
+        has-user = ap (λ (n : ℕ). bytesFrom 16 n s) (ap userLength (f .has-mode)) ∙ u;
+      }
 
-  length-front : length (front mode time) ≡ 16
+  pub length-front : length (front mode time) ≡ 16
   length-front = unfold front in refl
 
   -- a mode has room for its user data
@@ -83,9 +86,14 @@ module _ (mode : ℕ) (time : HeaderTime) (user : List ℕ) (known : mode ≤ 2)
 
   pub length-laid : length (laid mode time user) ≡ 2352
   length-laid =
-      omega
-      (arith, room, length-front, length-append (front mode time) (user ++ zeros (2336 - length user)),
-      length-append user (zeros (2336 - length user)), length-zeros (2336 - length user))
+      omega (
+        arith,
+        room,
+        length-front,
+        length-append (front mode time) (user ++ zeros (2336 - length user)),
+        length-append user (zeros (2336 - length user)),
+        length-zeros (2336 - length user),
+      )
 
   -- its user data
   pub laid-user : bytesFrom 16 (userLength mode) (laid mode time user) ≡ user
@@ -108,7 +116,7 @@ module _ (mode : ℕ) (time : HeaderTime) (user : List ℕ) (known : mode ≤ 2)
       → Asked mode time user s
   asked-protected s e l b same p =
       asked s (fronted-same mode time 2064 s (laid mode time user) (omega arith) same (fronted mode time (user ++ zeros (2336 - length user)))) l b
-        (λ z. absurd (omega arith)) (λ _. p) (user-data (ap userLength e))
+      (λ z. absurd (omega arith)) (λ _. p) (user-data (ap userLength e))
     where
       user-data : userLength mode ≡ 2048 → bytesFrom 16 (userLength mode) s ≡ user
       user-data q =

@@ -77,8 +77,8 @@ module _ {mode : ℕ} {time : HeaderTime} {user s t : List ℕ} (a : Asked mode 
   mode-02 : mode ≡ 2 → s ≡ t
   mode-02 e =
       by-rest
-        (sym (take-all 2336 (drop 16 s) (omega (arith, length-drop 16 s))) ∙ user-of 2336 (ap userLength e)
-         ∙ take-all 2336 (drop 16 t) (omega (arith, length-drop 16 t)))
+      (sym (take-all 2336 (drop 16 s) (omega (arith, length-drop 16 s))) ∙ user-of 2336 (ap userLength e)
+      ∙ take-all 2336 (drop 16 t) (omega (arith, length-drop 16 t)))
 
   -- bytes from k on that are equal, as a list and one by one
   from-list : (k n i : ℕ) → bytesFrom k n s ≡ bytesFrom k n t → k ≤ i → i < k + n → getD s i 0 ≡ getD t i 0
@@ -120,14 +120,14 @@ module _ {mode : ℕ} {time : HeaderTime} {user s t : List ℕ} (a : Asked mode 
       front : take 2064 s ≡ take 2064 t
       front =
           ext-getD 0 (take 2064 s) (take 2064 t) (length-take-le 2064 s (omega arith) ∙ sym (length-take-le 2064 t (omega arith)))
-            (λ i h.
-              let l : i < 2064 = omega (arith, length-take-le 2064 s (omega arith)) in
-              getD-take 2064 s i 0 l ∙ given i l ∙ sym (getD-take 2064 t i 0 l))
+          (λ i h.
+          let l : i < 2064 = omega (arith, length-take-le 2064 s (omega arith)) in
+          getD-take 2064 s i 0 l ∙ given i l ∙ sym (getD-take 2064 t i 0 l))
 
       edc-of : (u : List ℕ) → length u ≡ 2352 → Bytes u → Divisible (take 2068 u) → bytesFrom 2064 4 u ≡ edc (take 2064 u)
       edc-of u l h d =
           edc-only (take 2064 u) (bytesFrom 2064 4 u) (length-take-le 4 (drop 2064 u) (omega (arith, length-drop 2064 u)))
-            (bytes-take 4 (drop 2064 u) (bytes-drop 2064 u h)) (subst (λ (w : List ℕ). Divisible w) (take-add 2064 4 u) d)
+          (bytes-take 4 (drop 2064 u) (bytes-drop 2064 u h)) (subst (λ (w : List ℕ). Divisible w) (take-add 2064 4 u) d)
 
       same-edc : bytesFrom 2064 4 s ≡ bytesFrom 2064 4 t
       same-edc = edc-of s ls (hs .bytes) (ps .edc) ∙ ap edc front ∙ sym (edc-of t lt (ht .bytes) (pt .edc))

@@ -9,6 +9,8 @@ use Rattle.outcome.specs.Say.{Say, done, refused, demand, cleared}
 use Rattle.address.specs.Address.{inRange}
 use Rattle.sector.specs.Layout.{timeOf, modeOf, userLength, userData}
 use Rattle.sector.specs.Correct.{Correct}
+use Rattle.writer.specs.declared.Written.{Written}
+use Rattle.writer.specs.declared.Written.the-variants.{Done, WrongOutgoing, UnknownMode, WrongIncoming, WrongAddress}
 use Rattle.address.specs.declared.HeaderTime.{HeaderTime}
 
 -- the Sector that is asked for: correct, with this mode, address and user data
@@ -31,3 +33,11 @@ says mode time user old =
 pub data Writes (mode : ℕ) (time : HeaderTime) (user old : List ℕ) : Say → List ℕ → Type 0 where
   refuses : {n : ℕ} {v : List ℕ} → says mode time user old ≡ refused n v → Writes mode time user old (refused n v) (cleared 2352 old)
   writes : {s : List ℕ} → says mode time user old ≡ done [] → Asked mode time user s → Writes mode time user old (done []) s
+
+-- document 01's number for each answer
+abbrev pub sayOf : Written → Say
+sayOf Done = done []
+sayOf WrongOutgoing = refused 2 []
+sayOf UnknownMode = refused 3 []
+sayOf WrongIncoming = refused 1 []
+sayOf WrongAddress = refused 4 []

@@ -92,11 +92,12 @@ loop2-again c =
     let rows = outer .before .before .rows-of .ensures in
     let words = outer .before .before .before .words-of .ensures in
     let bytes : Bytes s = λ i. outer .before .before .before .before .shared-slice-known .given i .fits in
-    let l : inner .loop2 .m < rowsOf parity = omega arith in
-    (omega arith,
-    summing-more (wordOf parity s n) (inner .loop2 .inv .1) _ (word-bytes parity s n bytes) (omega (arith, word-long parity s n))
-      (ap (λ (k : ℕ). getD s k 0) (c .before .before .place-of .ensures) ∙ sym (word-at parity s n (inner .loop2 .m) l))
-      (c .times-alpha .ensures))
+    let l : inner .loop2 .m < rowsOf parity = omega arith in (
+      omega arith,
+      summing-more (wordOf parity s n) (inner .loop2 .inv .1) _ (word-bytes parity s n bytes) (omega (arith, word-long parity s n))
+          (ap (λ (k : ℕ). getD s k 0) (c .before .before .place-of .ensures) ∙ sym (word-at parity s n (inner .loop2 .m) l))
+          (c .times-alpha .ensures),
+    )
 
 add-n : tie.Need-add-n Inv-loop2 μ-loop2 Inv-loop μ-loop Inv-search μ-search
 add-n c = search needs
@@ -112,10 +113,11 @@ loop-again c =
     let s = outer .before .before .before .before .before .args .s .now in
     let n = outer .loop .n in
     let rows = outer .before .before .rows-of .ensures in
-    let words = outer .before .before .before .words-of .ensures in
-    (omega arith,
-    below-more _ n (outer .loop .inv .1)
-      (passes (wordOf parity s n) (inner .loop2 .inv .1) (rowsOf parity) (word-long parity s n) (omega arith) (c .before .if1 .left) (c .if2 .left)))
+    let words = outer .before .before .before .words-of .ensures in (
+      omega arith,
+      below-more _ n (outer .loop .inv .1)
+          (passes (wordOf parity s n) (inner .loop2 .inv .1) (rowsOf parity) (word-long parity s n) (omega arith) (c .before .if1 .left) (c .if2 .left)),
+    )
 
 returns : tie.Need-returns Inv-loop2 μ-loop2 Inv-loop μ-loop Inv-search μ-search
 returns c =
@@ -127,7 +129,7 @@ returns c =
     let rows = outer .before .before .rows-of .ensures in
     let words = outer .before .before .before .words-of .ensures in
     ends-at (failing parity s) n (wordsOf parity) (omega arith) (outer .loop .inv .1)
-      (fails-first (wordOf parity s n) (inner .loop2 .inv .1) (rowsOf parity) (word-long parity s n) (omega arith) (c .if1 .taken))
+    (fails-first (wordOf parity s n) (inner .loop2 .inv .1) (rowsOf parity) (word-long parity s n) (omega arith) (c .if1 .taken))
 
 returns-2 : tie.Need-returns-2 Inv-loop2 μ-loop2 Inv-loop μ-loop Inv-search μ-search
 returns-2 c =
@@ -139,7 +141,7 @@ returns-2 c =
     let rows = outer .before .before .rows-of .ensures in
     let words = outer .before .before .before .words-of .ensures in
     ends-at (failing parity s) n (wordsOf parity) (omega arith) (outer .loop .inv .1)
-      (fails-second (wordOf parity s n) (inner .loop2 .inv .1) (rowsOf parity) (word-long parity s n) (omega arith) (c .if2 .taken))
+    (fails-second (wordOf parity s n) (inner .loop2 .inv .1) (rowsOf parity) (word-long parity s n) (omega arith) (c .if2 .taken))
 
 returns-3 : tie.Need-returns-3 Inv-loop2 μ-loop2 Inv-loop μ-loop Inv-search μ-search
 returns-3 c =

@@ -79,8 +79,8 @@ returns c =
     let a : copy .last .1 .0 ≡ r = received r (blank .result) (copy .last .1 .0) (copy .result) (start .pre) (blank .ensures) (copy .ensures) in
     let p : PPass r (pass .result) (pass .last .0) = subst (λ (x : List ℕ). PPass x (pass .result) (pass .last .0)) a (pass .ensures) in
     found-for r (pass .last .0) (copy2 .last .1 .0) (put .last .0) (pass .result) (put .result) bytes (start .pre) p
-      (synced (pass .last .0) (field .result) (copy2 .last .1 .0) (copy2 .result) (p .sector (start .pre) .1 .long ∙ start .pre) (field .ensures) (copy2 .ensures))
-      (put .ensures)
+    (synced (pass .last .0) (field .result) (copy2 .last .1 .0) (copy2 .result) (p .sector (start .pre) .1 .long ∙ start .pre) (field .ensures) (copy2 .ensures))
+    (put .ensures)
 
 pub candidate-spec : {M : Type 1} → statement M
 candidate-spec =

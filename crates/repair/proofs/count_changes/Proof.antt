@@ -52,10 +52,11 @@ loop-again c =
     let loop = c .before .before .before .before in
     let i = loop .loop .i in
     let a = loop .before .before .before .before .args .a .now in
-    let b = loop .before .before .before .before .args .b .now in
-    (omega arith,
-    omega (arith, c .unlike .ensures, unlike-le (getD a i 0) (getD b i 0)),
-    changes-more a b i (omega arith) (omega arith) (loop .loop .inv .2) (c .unlike .ensures))
+    let b = loop .before .before .before .before .args .b .now in (
+      omega arith,
+      omega (arith, c .unlike .ensures, unlike-le (getD a i 0) (getD b i 0)),
+      changes-more a b i (omega arith) (omega arith) (loop .loop .inv .2) (c .unlike .ensures),
+    )
 
 returns : tie.Need-returns Inv-loop μ-loop
 returns c =

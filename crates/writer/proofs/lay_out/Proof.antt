@@ -44,8 +44,8 @@ part-s-end c =
     let first = c .before .before .before .before .front-of in
     let copy = c .before .copy in
     user-fits (start .args .mode) (start .args .time) (blank .ensures) (first .ensures) (copy .last .1 .0) (start .args .user .now)
-      (first-copied (start .args .mode) (start .args .time) (blank .ensures) (first .ensures) (copy .result) (copy .last .1 .0) (copy .ensures))
-      (start .pre)
+    (first-copied (start .args .mode) (start .args .time) (blank .ensures) (first .ensures) (copy .result) (copy .last .1 .0) (copy .ensures))
+    (start .pre)
 
 copy-requires-2 : tie.Need-copy-requires-2
 copy-requires-2 c κs = search needs
@@ -62,7 +62,7 @@ returns c =
     let copy2 = c .before .copy2 in
     let e = first-copied mode time (blank .ensures) (first .ensures) (copy .result) (copy .last .1 .0) (copy .ensures) in
     laid-out mode time user (blank .ensures) (e ∙ first .ensures)
-      (user-copied mode time (blank .ensures) (first .ensures) (copy2 .result) (copy .last .1 .0) (copy2 .last .1 .0) user e (start .pre) (copy2 .ensures))
+    (user-copied mode time (blank .ensures) (first .ensures) (copy2 .result) (copy .last .1 .0) (copy2 .last .1 .0) user e (start .pre) (copy2 .ensures))
 
 pub lay-out-spec : {M : Type 1} → statement M
 lay-out-spec =
