@@ -4,7 +4,6 @@ use mathlib.Core.Path.{_≡_, refl, sym, ap, _∙_}
 use mathlib.Core.Bool.{Bool, true, false}
 use mathlib.Core.List.{List, [], _∷_}
 use Prim.Native.Nat.{ℕ, _≤_, _<_}
-use native.Mathlib.Omega.{arith}
 use borrow.Author.Tests.{lt-ltb, le-ltb}
 use lib.Dec.{eqb, eqb→eq}
 use lib.ListN.{length, getD}
@@ -17,15 +16,6 @@ use Rattle.codeword.specs.FaultLaws.{verdict-by-sums}
 use Rattle.codeword.specs.declared.Fault.{Fault}
 use Rattle.codeword.specs.declared.Fault.the-variants.{Clean, Lost}
 use Rattle.codeword.specs.declared.Verdict.{Verdict}
-
--- an array of four as the list of its elements
-pub four-listed : (s : List ℕ) → length s ≡ 4 → s ≡ getD s 0 0 ∷ getD s 1 0 ∷ getD s 2 0 ∷ getD s 3 0 ∷ []
-four-listed [] e = absurd (omega arith)
-four-listed (a ∷ []) e = absurd (omega arith)
-four-listed (a ∷ b ∷ []) e = absurd (omega arith)
-four-listed (a ∷ b ∷ c ∷ []) e = absurd (omega arith)
-four-listed (a ∷ b ∷ c ∷ d ∷ []) e = refl
-four-listed (a ∷ b ∷ c ∷ d ∷ x ∷ s) e = absurd (omega arith)
 
 -- ---- are all sums 0?
 

@@ -57,7 +57,7 @@ module _ (s : List ℕ) (m : ℕ) where
   unfolding fits fit
   fits-all e =
       true-of (allBelow (fit s m) (length s))
-        (all-below (fit s m) (length s) (λ j h. of-true (fit s m j) (eq-eqb (getD s j 0) (mul (getD s 0 0) (power (j * m))) (e j h))))
+      (all-below (fit s m) (length s) (λ j h. of-true (fit s m j) (eq-eqb (getD s j 0) (mul (getD s 0 0) (power (j * m))) (e j h))))
 
   pub fits-not : (j : ℕ) {t : ℕ} → j < length s → t ≡ mul (getD s 0 0) (power (j * m)) → (t ≡ getD s j 0 → ⊥) → fits s m ≡ true → ⊥
   unfolding fits fit

@@ -97,9 +97,9 @@ one-change (x ∷ a) (y ∷ b) e h = go (ℕ-discrete x y) (one-change a b (omeg
     go (yes p) r = later p (r (omega (arith, unlike-same x y p)))
     go (no n) r =
         inr
-          (record {
-            place = 0;
-            value = y;
-            inside = omega arith;
-            is = ap (λ (t : List ℕ). y ∷ t) (sym (changes-none a b (omega arith) (omega (arith, unlike-other x y n))));
-          })
+        (record {
+          place = 0;
+          value = y;
+          inside = omega arith;
+          is = ap (λ (t : List ℕ). y ∷ t) (sym (changes-none a b (omega arith) (omega (arith, unlike-other x y n))));
+        })

@@ -57,28 +57,28 @@ lighter J ih (x ∷ d) h l w s = go (ℕ-discrete x 0) (lighter J ih d (λ i. h 
     twisted j hj =
         sum-twist j (power (length d)) d (power-lt (length d)) (λ i. h (suc i))
         ∙ ap₂ bitXor
-            (rest (suc j) (omega arith))
-            (ap (λ (y : ℕ). mul y (power (length d))) (rest j (omega arith))
-             ∙ mul-power-add x (j * length d) (length d) (h 0) ∙ ap (λ (m : ℕ). mul x (power m)) (sym (suc-mul j (length d))))
+        (rest (suc j) (omega arith))
+        (ap (λ (y : ℕ). mul y (power (length d))) (rest j (omega arith))
+        ∙ mul-power-add x (j * length d) (length d) (h 0) ∙ ap (λ (m : ℕ). mul x (power m)) (sym (suc-mul j (length d))))
         ∙ xor-self (mul x (power (suc j * length d)))
 
     never : (x ≡ 0 → ⊥) → ⊥
     never nz =
         let t : List ℕ = twist (power (length d)) d in
         let z : t ≡ zeros t =
-              ih t (bytes-twist (power (length d)) d (power-lt (length d)) (λ i. h (suc i)))
-                (omega (arith, length-twist (power (length d)) d))
-                (omega (arith, weight-twist (power (length d)) d, unlike-other x 0 nz)) twisted in
+        ih t (bytes-twist (power (length d)) d (power-lt (length d)) (λ i. h (suc i)))
+        (omega (arith, length-twist (power (length d)) d))
+        (omega (arith, weight-twist (power (length d)) d, unlike-other x 0 nz)) twisted in
         let y : d ≡ zeros d =
-              untwist (length d) d (omega arith) (omega arith) (λ i. h (suc i))
-                (z ∙ ap (λ (k : ℕ). replicate k 0) (length-twist (power (length d)) d)) in
+        untwist (length d) d (omega arith) (omega arith) (λ i. h (suc i))
+        (z ∙ ap (λ (k : ℕ). replicate k 0) (length-twist (power (length d)) d)) in
         nz (sym (times-none x (length d)) ∙ sym (rest 0 (omega arith)) ∙ ap (sum 0) y ∙ sum-zeros 0 (length d))
 
     go : Dec (x ≡ 0) → (weight d ≤ suc J → Codeword (suc J) d → d ≡ zeros d) → x ∷ d ≡ zeros (x ∷ d)
     go (yes e) r =
         head-zero x d e
-          (r (omega (arith, unlike-same x 0 e))
-            (λ j hj. rest j hj ∙ ap (λ (y : ℕ). mul y (power (j * length d))) e ∙ mul-zero-l (power (j * length d))))
+        (r (omega (arith, unlike-same x 0 e))
+        (λ j hj. rest j hj ∙ ap (λ (y : ℕ). mul y (power (j * length d))) e ∙ mul-zero-l (power (j * length d))))
     go (no nz) r = absurd (never nz)
 
 -- a word of at most 255 bytes with J sums 0 and at most J bytes not 0 is all zeros
@@ -114,9 +114,9 @@ pub same-sums : (J : ℕ) (a b : List ℕ) → length a ≡ length b → length 
     → ((j : ℕ) → j < J → sum j a ≡ sum j b) → changes a b ≤ J → a ≡ b
 same-sums J a b e k ha hb s h =
     added-zero a b e
-      (distance J (added a b) (bytes-added a b ha hb) (omega (arith, length-added a b e)) (omega (arith, weight-added a b e))
-        (λ j hj. sum-added j a b e ∙ ap (λ (x : ℕ). bitXor x (sum j b)) (s j hj) ∙ xor-self (sum j b))
-       ∙ ap (λ (n : ℕ). replicate n 0) (length-added a b e))
+    (distance J (added a b) (bytes-added a b ha hb) (omega (arith, length-added a b e)) (omega (arith, weight-added a b e))
+    (λ j hj. sum-added j a b e ∙ ap (λ (x : ℕ). bitXor x (sum j b)) (s j hj) ∙ xor-self (sum j b))
+    ∙ ap (λ (n : ℕ). replicate n 0) (length-added a b e))
 
 -- two codewords that differ in at most J places are equal
 pub codewords-differ : (J : ℕ) (a b : List ℕ) → length a ≡ length b → length a ≤ 255 → Bytes a → Bytes b

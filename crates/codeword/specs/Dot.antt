@@ -56,6 +56,6 @@ unfolding dot
 dot-alpha a [] ha ht = sym timesAlpha-zero
 dot-alpha a (x ∷ t) ha ht =
     ap₂ bitXor
-      (mul-comm x (timesAlpha (a 0)) (ht 0) (timesAlpha-lt (a 0) (ha 0)) ∙ mul-alpha (a 0) x ∙ ap timesAlpha (mul-comm (a 0) x (ha 0) (ht 0)))
-      (dot-alpha (λ n. a (suc n)) t (λ n. ha (suc n)) (λ i. ht (suc i)))
+    (mul-comm x (timesAlpha (a 0)) (ht 0) (timesAlpha-lt (a 0) (ha 0)) ∙ mul-alpha (a 0) x ∙ ap timesAlpha (mul-comm (a 0) x (ha 0) (ht 0)))
+    (dot-alpha (λ n. a (suc n)) t (λ n. ha (suc n)) (λ i. ht (suc i)))
     ∙ sym (timesAlpha-xor (mul x (a 0)) (dot (λ n. a (suc n)) t))

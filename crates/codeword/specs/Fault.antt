@@ -1,4 +1,4 @@
--- The fault of a word by its sums alone, for many words whose sums are made in one sweep. One byte that is wrong by e, and that m
+-- The fault of a word by its sums alone (Annex A, Annex C.7), for many words whose sums are made in one sweep. One byte that is wrong by e, and that m
 -- bytes come after, makes each sum e α^(jm).
 -- Assumes nothing.
 use mathlib.Core.Bool.{Bool, cond}

@@ -88,13 +88,13 @@ sum-factors j (f ∷ fs) t s h =
     let k : ℕ = power (j * length fs) in
     let sf : T (small f) = and-left (small f) (allSmall fs) s in
     ap₂ bitXor
-      (ap (λ (n : ℕ). mul (value t f) (power (j * n))) (length-map fs (value t))
-       ∙ ap (λ (x : ℕ). mul x (power (j * length fs))) (value-factors f t sf h)
-       ∙ sym (dot-times (λ n. factor n f) (power (j * length fs)) t (factor-lt f sf) (power-lt (j * length fs)) h))
-      (sum-factors j fs t (and-right (small f) (allSmall fs) s) h)
+    (ap (λ (n : ℕ). mul (value t f) (power (j * n))) (length-map fs (value t))
+    ∙ ap (λ (x : ℕ). mul x (power (j * length fs))) (value-factors f t sf h)
+    ∙ sym (dot-times (λ n. factor n f) (power (j * length fs)) t (factor-lt f sf) (power-lt (j * length fs)) h))
+    (sum-factors j fs t (and-right (small f) (allSmall fs) s) h)
     ∙ sym (dot-plus (λ n. mul (factor n f) (power (j * length fs))) (λ n. sum j (map (factor n) fs)) t)
     ∙ dot-same (λ n. bitXor (mul (factor n f) (power (j * length fs))) (sum j (map (factor n) fs))) (λ n. sum j (map (factor n) (f ∷ fs))) t
-        (λ n l. ap (λ (m : ℕ). bitXor (mul (factor n f) (power (j * m))) (sum j (map (factor n) fs))) (sym (length-map fs (factor n))))
+    (λ n l. ap (λ (m : ℕ). bitXor (mul (factor n f) (power (j * m))) (sum j (map (factor n) fs))) (sym (length-map fs (factor n))))
 
 -- of the factors of byte n, sum n is 1 and the others are 0
 abbrev unit : List Form → ℕ → ℕ → Bool
@@ -115,9 +115,9 @@ solved fs t s h e =
       long = length-map fs (value t) ∙ sym e;
       bytes = values-bytes fs (and-left (allSmall fs) (units fs) s);
       sums = λ j l.
-        sum-factors j fs t (and-left (allSmall fs) (units fs) s) h
-        ∙ dot-same (λ n. sum j (map (factor n) fs)) (λ n. cond (eqb j n) 1 0) t (λ n k. at j n (omega arith) (omega arith))
-        ∙ dot-byte j t;
+          sum-factors j fs t (and-left (allSmall fs) (units fs) s) h
+          ∙ dot-same (λ n. sum j (map (factor n) fs)) (λ n. cond (eqb j n) 1 0) t (λ n k. at j n (omega arith) (omega arith))
+          ∙ dot-byte j t;
     }
   where
     values-bytes : (fs : List Form) → T (allSmall fs) → Bytes (map (value t) fs)
@@ -128,4 +128,4 @@ solved fs t s h e =
     at : (j n : ℕ) → j < length fs → n < length fs → sum j (map (factor n) fs) ≡ cond (eqb j n) 1 0
     at j n l k =
         eqb→eq (sum j (map (factor n) fs)) (cond (eqb j n) 1 0)
-          (below (unit fs j) (length fs) (below (λ j. allBelow (unit fs j) (length fs)) (length fs) (and-right (allSmall fs) (units fs) s) j l) n k)
+        (below (unit fs j) (length fs) (below (λ j. allBelow (unit fs j) (length fs)) (length fs) (and-right (allSmall fs) (units fs) s) j l) n k)

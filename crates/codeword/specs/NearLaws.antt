@@ -23,7 +23,7 @@ use Rattle.codeword.specs.Distance.{codewords-differ}
 pub near-unique : (J : ℕ) (w a b : List ℕ) → 2 ≤ J → length w ≤ 255 → Near J w a → Near J w b → a ≡ b
 near-unique J w a b hj k na nb =
     codewords-differ J a b (na .long ∙ sym (nb .long)) (omega (arith, na .long)) (na .bytes) (nb .bytes) (na .code) (nb .code)
-      (omega (arith, changes-triangle w a b (na .long) (nb .long), na .close, nb .close))
+    (omega (arith, changes-triangle w a b (na .long) (nb .long), na .close, nb .close))
 
 -- ---- the test for a codeword
 
@@ -66,12 +66,14 @@ module _ (J : ℕ) (w : List ℕ) (hb : Bytes w) where
           let p : placeBefore (length w - 1 - o .place) (length w) ≡ o .place = omega (arith, o .inside) in
           let back : bitXor (getD w (o .place) 0) (bitXor (getD w (o .place) 0) (o .value)) ≡ o .value = xor-cancel (getD w (o .place) 0) (o .value) in
           let s : sum 0 w ≡ bitXor (getD w (o .place) 0) (o .value) =
-                xor-equal (sum 0 w) (bitXor (getD w (o .place) 0) (o .value))
-                  (ap (bitXor (sum 0 w)) (sym (times-none (bitXor (getD w (o .place) 0) (o .value)) (length w - 1 - o .place)))
-                   ∙ sym (sum-set 0 w (o .place) (length w - 1 - o .place) (bitXor (getD w (o .place) 0) (o .value)) l)
-                   ∙ ap (λ (x : ℕ). sum 0 (set w (o .place) x)) back ∙ ap (sum 0) (sym (o .is)) ∙ n .code 0 hj) in
-          inr
-            (length w - 1 - o .place, omega (arith, o .inside),
-             ap (λ (k : ℕ). set w k (bitXor (getD w k 0) (sum 0 w))) p
-             ∙ ap (λ (x : ℕ). set w (o .place) (bitXor (getD w (o .place) 0) x)) s
-             ∙ ap (λ (x : ℕ). set w (o .place) x) back ∙ sym (o .is))
+          xor-equal (sum 0 w) (bitXor (getD w (o .place) 0) (o .value))
+          (ap (bitXor (sum 0 w)) (sym (times-none (bitXor (getD w (o .place) 0) (o .value)) (length w - 1 - o .place)))
+          ∙ sym (sum-set 0 w (o .place) (length w - 1 - o .place) (bitXor (getD w (o .place) 0) (o .value)) l)
+          ∙ ap (λ (x : ℕ). sum 0 (set w (o .place) x)) back ∙ ap (sum 0) (sym (o .is)) ∙ n .code 0 hj) in
+          inr (
+            length w - 1 - o .place,
+            omega (arith, o .inside),
+            ap (λ (k : ℕ). set w k (bitXor (getD w k 0) (sum 0 w))) p
+                ∙ ap (λ (x : ℕ). set w (o .place) (bitXor (getD w (o .place) 0) x)) s
+                ∙ ap (λ (x : ℕ). set w (o .place) x) back ∙ sym (o .is),
+          )

@@ -45,7 +45,7 @@ module _ (J : ℕ) (w : List ℕ) (hb : Bytes w) where
       code true t e = let q : w ≡ c = cc in subst (λ (x : List ℕ). Near J w x) q (self-near J w hb (code-of-test J w t))
       code false t e =
           place (bytesAfter J w) found
-            (ltb (bytesAfter J w) (length w)) refl e
+          (ltb (bytesAfter J w) (length w)) refl e
 
       short : (b : Bool)
           → mended w (cond b Lost (cond (isCodeword J w) Clean (change w (bytesAfter J w)))) ≡ some c
@@ -65,7 +65,7 @@ module _ (J : ℕ) (w : List ℕ) (hb : Bytes w) where
           → mended w (change w r) ≡ some c
       place r f d nc (inl l) =
           rw (lt-ltb r (length w) l)
-            (ap {B = Option (List ℕ)} some (unfold changed in one (changed w r) (changed-near J w hb r (code-of-test J (changed w r) (f .holds l)))))
+          (ap {B = Option (List ℕ)} some (unfold changed in one (changed w r) (changed-near J w hb r (code-of-test J (changed w r) (f .holds l)))))
       place r f (inl e) nc (inr l) = absurd (nc (subst (λ (x : List ℕ). Codeword J x) (sym e) (n .code)))
       place r f (inr p) nc (inr l) =
           absurd (f .before (p .0) (omega (arith, p .1)) (test-of-code J (changed w (p .0)) (subst (λ (x : List ℕ). Codeword J x) (sym (p .2)) (n .code))))
@@ -75,7 +75,7 @@ module _ (J : ℕ) (w : List ℕ) (hb : Bytes w) where
       code true t = ap {B = Option (List ℕ)} some (one w (self-near J w hb (code-of-test J w t)))
       code false t =
           place (bytesAfter J w) found (near-cases J w hb c (omega arith) n)
-            (λ h. not-both (test-of-code J w h)) (lt-or-le (bytesAfter J w) (length w))
+          (λ h. not-both (test-of-code J w h)) (lt-or-le (bytesAfter J w) (length w))
         where
           not-both : isCodeword J w ≡ true → ⊥
           not-both s = let z : _≡_ {A = ℕ} 0 1 = cc in omega arith

@@ -43,31 +43,32 @@ module _ (fs : List Form) (s : T (solves fs)) (a b : List ℕ) (ha : Bytes a) (h
   blank-lt : (j : ℕ) → sum j blank < 256
   blank-lt j =
       sum-lt j blank
-        (bytes-append a (replicate (length fs) 0 ++ b) ha (bytes-append (replicate (length fs) 0) b (bytes-replicate (length fs) 0 (omega arith)) hb))
+      (bytes-append a (replicate (length fs) 0 ++ b) ha (bytes-append (replicate (length fs) 0) b (bytes-replicate (length fs) 0 (omega arith)) hb))
 
   filled-sums : WithSums (tabulated target 0 (length fs)) filled
   filled-sums =
       solved fs (tabulated target 0 (length fs)) s
-        (bytes-tabulated target 0 (length fs) (λ j. mul-lt (sum j blank) (254 * (j * length b)) (blank-lt j)))
-        (length-tabulated target 0 (length fs))
+      (bytes-tabulated target 0 (length fs) (λ j. mul-lt (sum j blank) (254 * (j * length b)) (blank-lt j)))
+      (length-tabulated target 0 (length fs))
 
   parity-exists : (p : List ℕ) × Parity (length fs) p (a ++ (p ++ b))
   parity-exists =
       let t : List ℕ = tabulated target 0 (length fs) in
       let n : length t ≡ length fs = length-tabulated target 0 (length fs) in
-      let l : length filled ≡ length fs = filled-sums .long ∙ n in
-      (filled,
-       record {
-         long = l;
-         bytes = filled-sums .bytes;
-         code =
-           subst (λ (p : List ℕ). Codeword (length fs) (a ++ (p ++ b))) (added-zeros (length fs) filled l)
-             (parity-added (length fs) a (replicate (length fs) 0) filled b (bytes-replicate (length fs) 0 (omega arith)) (filled-sums .bytes)
-               (length-replicate {A = ℕ} (length fs) 0 ∙ sym l)
-               (λ j h.
-               ap (λ (x : ℕ). mul x (power (j * length b))) (filled-sums .sums j (omega arith) ∙ tabulated-at target (length fs) j h)
-               ∙ power-back (sum j blank) (254 * (j * length b)) (j * length b) (blank-lt j) (omega arith)));
-       })
+      let l : length filled ≡ length fs = filled-sums .long ∙ n in (
+        filled,
+        record {
+          long = l;
+          bytes = filled-sums .bytes;
+          code =
+              subst (λ (p : List ℕ). Codeword (length fs) (a ++ (p ++ b))) (added-zeros (length fs) filled l)
+              (parity-added (length fs) a (replicate (length fs) 0) filled b (bytes-replicate (length fs) 0 (omega arith)) (filled-sums .bytes)
+              (length-replicate {A = ℕ} (length fs) 0 ∙ sym l)
+              (λ j h.
+              ap (λ (x : ℕ). mul x (power (j * length b))) (filled-sums .sums j (omega arith) ∙ tabulated-at target (length fs) j h)
+              ∙ power-back (sum j blank) (254 * (j * length b)) (j * length b) (blank-lt j) (omega arith)));
+        },
+      )
 
 -- two bytes in a row, and four, between any a and b
 pub two-exist : (a b : List ℕ) → Bytes a → Bytes b → (p : List ℕ) × Parity 2 p (a ++ (p ++ b))

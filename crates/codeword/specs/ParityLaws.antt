@@ -49,9 +49,9 @@ parity-unique J a p q b k P Q = added-zero p q same (zeros ∙ ap (λ (n : ℕ).
     code : Codeword J (added p q)
     code j h =
         mul-nonzero (sum j (added p q)) (j * length b) (sum-lt j (added p q) hd)
-          (sym (ap (λ (x : ℕ). bitXor x (mul (sum j (added p q)) (power (j * length b)))) (P .code j h))
-           ∙ sym (sum-part j a p (added p q) b (P .bytes) hd (sym long))
-           ∙ ap (λ (l : List ℕ). sum j (a ++ (l ++ b))) (added-twice p q same) ∙ Q .code j h)
+        (sym (ap (λ (x : ℕ). bitXor x (mul (sum j (added p q)) (power (j * length b)))) (P .code j h))
+        ∙ sym (sum-part j a p (added p q) b (P .bytes) hd (sym long))
+        ∙ ap (λ (l : List ℕ). sum j (a ++ (l ++ b))) (added-twice p q same) ∙ Q .code j h)
 
     zeros : added p q ≡ replicate (length (added p q)) 0
     zeros = distance J (added p q) hd (omega (arith, P .long, long)) (omega (arith, P .long, long, weight-le (added p q))) code
@@ -69,7 +69,7 @@ parity-end-unique J a p q k P Q = parity-unique J a p q [] k (at-end p P) (at-en
 pub with-sums-unique : (t p q : List ℕ) → length t ≤ 255 → WithSums t p → WithSums t q → p ≡ q
 with-sums-unique t p q k P Q =
     same-sums (length t) p q (P .long ∙ sym (Q .long)) (omega (arith, P .long)) (P .bytes) (Q .bytes) (λ j h. P .sums j h ∙ sym (Q .sums j h))
-      (omega (arith, P .long, changes-le p q))
+    (omega (arith, P .long, changes-le p q))
 
 -- at the end: the sums of the parity are those of the word before it, moved up by the parity's length
 pub parity-behind : (w t p : List ℕ) → Bytes w → ((j : ℕ) → j < length t → getD t j 0 ≡ mul (sum j w) (power (j * length t))) → WithSums t p
@@ -79,9 +79,9 @@ parity-behind w t p h s P =
       long = P .long;
       bytes = P .bytes;
       code = λ j l.
-        sum-append j w p h
-        ∙ ap₂ bitXor (ap (λ (n : ℕ). mul (sum j w) (power (j * n))) (P .long) ∙ sym (s j l)) (P .sums j l)
-        ∙ xor-self (getD t j 0);
+          sum-append j w p h
+          ∙ ap₂ bitXor (ap (λ (n : ℕ). mul (sum j w) (power (j * n))) (P .long) ∙ sym (s j l)) (P .sums j l)
+          ∙ xor-self (getD t j 0);
     }
 
 -- two bytes at the end, as `parity_from_sums` gives them

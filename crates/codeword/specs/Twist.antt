@@ -57,10 +57,11 @@ weight-twist c (b ∷ d) = go (ℕ-discrete b 0) (weight-twist c d)
   where
     go : Dec (b ≡ 0) → weight (twist c d) ≤ weight d → weight (twist c (b ∷ d)) ≤ weight (b ∷ d)
     go (yes s) r =
-        omega
-          (arith,
-           unlike-same (mul b (bitXor (power (length d)) c)) 0
-             (ap (λ (x : ℕ). mul x (bitXor (power (length d)) c)) s ∙ mul-zero-l (bitXor (power (length d)) c)))
+        omega (
+          arith,
+          unlike-same (mul b (bitXor (power (length d)) c)) 0
+              (ap (λ (x : ℕ). mul x (bitXor (power (length d)) c)) s ∙ mul-zero-l (bitXor (power (length d)) c)),
+        )
     go (no s) r = omega (arith, unlike-other b 0 s, unlike-le (mul b (bitXor (power (length d)) c)) 0)
 
 pub sum-twist : (j c : ℕ) (d : List ℕ) → c < 256 → Bytes d → sum j (twist c d) ≡ bitXor (sum (suc j) d) (mul (sum j d) c)
@@ -69,13 +70,13 @@ sum-twist j c [] hc h = sym (mul-zero-l c)
 sum-twist j c (b ∷ d) hc h =
     let n : ℕ = length d in
     ap₂ bitXor
-      (ap (λ (m : ℕ). mul (mul b (bitXor (power n) c)) (power (j * m))) (length-twist c d)
-       ∙ ap (λ (x : ℕ). mul x (power (j * n))) (mul-xor-r b (power n) c)
-       ∙ mul-xor (mul b (power n)) (mul b c) (power (j * n))
-       ∙ ap₂ bitXor
-           (mul-power-add b n (j * n) (h 0) ∙ ap (λ (m : ℕ). mul b (power m)) (add-comm n (j * n) ∙ sym (suc-mul j n)))
-           (mul-swap b c (power (j * n)) (h 0) hc (power-lt (j * n))))
-      (sum-twist j c d hc (λ i. h (suc i)))
+    (ap (λ (m : ℕ). mul (mul b (bitXor (power n) c)) (power (j * m))) (length-twist c d)
+    ∙ ap (λ (x : ℕ). mul x (power (j * n))) (mul-xor-r b (power n) c)
+    ∙ mul-xor (mul b (power n)) (mul b c) (power (j * n))
+    ∙ ap₂ bitXor
+    (mul-power-add b n (j * n) (h 0) ∙ ap (λ (m : ℕ). mul b (power m)) (add-comm n (j * n) ∙ sym (suc-mul j n)))
+    (mul-swap b c (power (j * n)) (h 0) hc (power-lt (j * n))))
+    (sum-twist j c d hc (λ i. h (suc i)))
     ∙ xor-swap (mul b (power (suc j * n))) (mul (mul b (power (j * n))) c) (sum (suc j) d) (mul (sum j d) c)
     ∙ ap (bitXor (bitXor (mul b (power (suc j * n))) (sum (suc j) d))) (sym (mul-xor (mul b (power (j * n))) (sum j d) c))
 
@@ -87,9 +88,9 @@ untwist n (b ∷ d) hn l h z =
     let p : mul b (bitXor (power (length d)) (power n)) ≡ 0 = cc in
     let q : twist (power n) d ≡ zeros d = cc in
     head-zero b d
-      (mul-domain b (bitXor (power (length d)) (power n)) (h 0) (xor-lt 8 (power (length d)) (power n) (power-lt (length d)) (power-lt n))
-        (λ e. other (power-inj (length d) n (omega arith) hn (xor-equal (power (length d)) (power n) e))) p)
-      (untwist n d hn (omega arith) (λ i. h (suc i)) q)
+    (mul-domain b (bitXor (power (length d)) (power n)) (h 0) (xor-lt 8 (power (length d)) (power n) (power-lt (length d)) (power-lt n))
+    (λ e. other (power-inj (length d) n (omega arith) hn (xor-equal (power (length d)) (power n) e))) p)
+    (untwist n d hn (omega arith) (λ i. h (suc i)) q)
   where
     other : length d ≡ n → ⊥
     other e = omega arith

@@ -6,8 +6,13 @@ ghost use lib.ListN.{length};
 ghost use Rattle.outcome.specs.First.{firstBelow};
 ghost use Rattle.codeword.specs.Nearest.{verdict};
 ghost use Rattle.codeword.specs.Fault.{cure, fault, faultAt, fits};
-use crate::sums::{four_sums, two_sums, ALPHA, ALPHA_2, ALPHA_3};
-use crate::{Fault, Verdict};
+use crate::Fault;
+use crate::Verdict;
+use crate::powers::ALPHA;
+use crate::powers::ALPHA_2;
+use crate::powers::ALPHA_3;
+use crate::sums::four_sums;
+use crate::sums::two_sums;
 use field::product;
 
 // The longest word that the codes can mend: below α^255 no two powers of α are equal.

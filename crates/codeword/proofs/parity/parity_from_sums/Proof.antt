@@ -24,9 +24,9 @@ unfolding power timesAlpha
 returns c =
     let a = c .before .before in
     subst (λ (t : ℕ). WithSums (a .args .s0 ∷ t ∷ []) (c .product2 .result ∷ bitXor (a .args .s0) (c .product2 .result) ∷ []))
-      (c .before .product .ensures)
-      (two-solved (a .args .s0) (c .before .product .result) (a .fits .s0 .fits) (omega (arith, c .before .product .ensures, mul-lt (a .args .s1) 2 (a .fits .s1 .fits)))
-        (c .product2 .ensures))
+    (c .before .product .ensures)
+    (two-solved (a .args .s0) (c .before .product .result) (a .fits .s0 .fits) (omega (arith, c .before .product .ensures, mul-lt (a .args .s1) 2 (a .fits .s1 .fits)))
+    (c .product2 .ensures))
 
 pub parity-from-sums-spec : {M : Type 1} → statement M
 parity-from-sums-spec = tie.close (tie.spec product-requires product-requires-2 returns)

@@ -47,12 +47,13 @@ loop-again c =
     let l = b .before .before .loop in
     let w = b .before .before .before .before .args .w .now in
     let bytes : Bytes w = λ i. b .shared-slice-known2 .given i .fits in
-    let inside = b .before .loop-test .taken in
-    (search needs,
-     sum-step 0 w (l .i) bytes inside (l .inv .1) (sym (times-0 (l .s0))),
-     sum-step 1 w (l .i) bytes inside (l .inv .2) (c .before .before .product .ensures),
-     sum-step 2 w (l .i) bytes inside (l .inv .3) (c .before .product2 .ensures),
-     sum-step 3 w (l .i) bytes inside (l .inv .4) (c .product3 .ensures))
+    let inside = b .before .loop-test .taken in (
+      search needs,
+      sum-step 0 w (l .i) bytes inside (l .inv .1) (sym (times-0 (l .s0))),
+      sum-step 1 w (l .i) bytes inside (l .inv .2) (c .before .before .product .ensures),
+      sum-step 2 w (l .i) bytes inside (l .inv .3) (c .before .product2 .ensures),
+      sum-step 3 w (l .i) bytes inside (l .inv .4) (c .product3 .ensures),
+    )
 
 returns : tie.Need-returns Inv-loop μ-loop
 returns c =
@@ -60,8 +61,8 @@ returns c =
     let w = c .before .before .before .args .w .now in
     let end = c .loop-test .left in
     four
-      (l .inv .1 ∙ sum-all 0 w (l .i) end) (l .inv .2 ∙ sum-all 1 w (l .i) end)
-      (l .inv .3 ∙ sum-all 2 w (l .i) end) (l .inv .4 ∙ sum-all 3 w (l .i) end)
+    (l .inv .1 ∙ sum-all 0 w (l .i) end) (l .inv .2 ∙ sum-all 1 w (l .i) end)
+    (l .inv .3 ∙ sum-all 2 w (l .i) end) (l .inv .4 ∙ sum-all 3 w (l .i) end)
   where
     four : {a b c d a' b' c' d' : ℕ} → a ≡ a' → b ≡ b' → c ≡ c' → d ≡ d' → a ∷ b ∷ c ∷ d ∷ [] ≡ a' ∷ b' ∷ c' ∷ d' ∷ []
     four p q r s = cc

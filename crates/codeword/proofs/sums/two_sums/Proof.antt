@@ -38,10 +38,11 @@ unfolding power timesAlpha
 loop-again c =
     let l = c .before .before .before .loop in
     let w = c .before .before .before .before .before .args .w .now in
-    let bytes : Bytes w = λ i. c .before .shared-slice-known2 .given i .fits in
-    (search needs,
-     sum-step 0 w (l .i) bytes (c .before .before .loop-test .taken) (l .inv .1) (sym (times-0 (l .s0))),
-     sum-step 1 w (l .i) bytes (c .before .before .loop-test .taken) (l .inv .2) (c .product .ensures))
+    let bytes : Bytes w = λ i. c .before .shared-slice-known2 .given i .fits in (
+      search needs,
+      sum-step 0 w (l .i) bytes (c .before .before .loop-test .taken) (l .inv .1) (sym (times-0 (l .s0))),
+      sum-step 1 w (l .i) bytes (c .before .before .loop-test .taken) (l .inv .2) (c .product .ensures),
+    )
 
 returns : tie.Need-returns Inv-loop μ-loop
 returns c =

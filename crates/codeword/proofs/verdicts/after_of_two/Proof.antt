@@ -38,9 +38,10 @@ loop-again : tie.Need-loop-again Inv-loop μ-loop
 unfolding power timesAlpha
 loop-again c =
     let l = c .before .before .before .loop in
-    let a = c .before .before .before .before .args in
-    (passed-more (l .inv .0) (c .before .before .loop-test .taken) (fits-not (a .s0 ∷ a .s1 ∷ []) (l .m) 1 (omega arith) (l .inv .1) (c .before .if1 .left)),
-     weighted-more 1 (l .m) (a .s0) (search needs) (l .inv .1) (c .product .ensures))
+    let a = c .before .before .before .before .args in (
+      passed-more (l .inv .0) (c .before .before .loop-test .taken) (fits-not (a .s0 ∷ a .s1 ∷ []) (l .m) 1 (omega arith) (l .inv .1) (c .before .if1 .left)),
+      weighted-more 1 (l .m) (a .s0) (search needs) (l .inv .1) (c .product .ensures),
+    )
 
 returns-2 : tie.Need-returns-2 Inv-loop μ-loop
 returns-2 c = found-none (c .before .loop .inv .0) (c .loop-test .left)

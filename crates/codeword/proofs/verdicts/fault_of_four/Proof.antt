@@ -11,7 +11,8 @@ use native.Mathlib.Omega.{arith}
 use lib.ListN.{length}
 use Rattle.outcome.specs.First.{firstBelow}
 use Rattle.codeword.specs.Fault.{allZero, fits}
-use Rattle.codeword.proofs.Faults.{four-listed, not-zero, zero-four, fault-long, fault-none, fault-found}
+use Rattle.codeword.proofs.Listed.{four-listed}
+use Rattle.codeword.proofs.Faults.{not-zero, zero-four, fault-long, fault-none, fault-found}
 use Rattle.codeword.proofs.verdicts.fault_of_four.Statement.{statement}
 use Rattle.codeword.proofs.verdicts.fault_of_four.Tie as tie
 
@@ -38,7 +39,7 @@ returns-2 c =
     let b = c .before .before .before in
     let start = b .before .before in
     fault-none _ _ (b .before .if1 .left)
-      (ap allZero (four-listed _ (long start)) ∙ zero-four _ _ _ _ (b .if2 .taken) (c .before .before .if3 .taken) (c .before .if4 .taken) (c .if5 .taken))
+    (ap allZero (four-listed _ (long start)) ∙ zero-four _ _ _ _ (b .if2 .taken) (c .before .before .if3 .taken) (c .before .if4 .taken) (c .if5 .taken))
 
 after-of-four-requires : tie.Need-after-of-four-requires
 after-of-four-requires c κs = search needs
@@ -47,8 +48,8 @@ unclean : (c : tie.Joined2) → allZero (c .before .before .args .t1) ≡ false
 unclean c =
     let l = long (c .before .before) in
     ⊎-elim (λ p. not-zero _ 3 (omega arith) (p .3 .left))
-      (⊎-elim (λ p. not-zero _ 2 (omega arith) (p .2 .left))
-        (⊎-elim (λ p. not-zero _ 1 (omega arith) (p .1 .left)) (λ p. not-zero _ 0 (omega arith) (p .left)))) (c .if2 .came)
+    (⊎-elim (λ p. not-zero _ 2 (omega arith) (p .2 .left))
+    (⊎-elim (λ p. not-zero _ 1 (omega arith) (p .1 .left)) (λ p. not-zero _ 0 (omega arith) (p .left)))) (c .if2 .came)
 
 first : (c : tie.After-after-of-four) → c .after-of-four .result ≡ firstBelow (fits (c .before .before .before .args .t1)) (c .before .before .before .args .k)
 first c =
