@@ -1,0 +1,2 @@
+-- Counting
+-- Assumes nothing.
