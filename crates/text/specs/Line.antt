@@ -12,7 +12,7 @@ use Rattle.text.specs.declared.Text.{Text}
 abbrev pub written : Text → List ℕ
 written t = take (t .len) (t .bytes)
 
--- the text says this line, and after it the buffer has noughts
+-- the text says this line, and after it the buffer has zeros
 pub record Holds (line : List ℕ) (t : Text) : Type 0 where
   pub fits : length line ≤ 96
   pub len : t .len ≡ length line

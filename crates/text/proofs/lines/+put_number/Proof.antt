@@ -1,4 +1,5 @@
--- `text::lines::put_number` meets its contract: it writes a digit as `decimal-one` says, and any other number as `decimal-more` does. The measure is the number.
+-- `text::lines::put_number` meets its contract: a digit is written as `decimal-one` says, and any other number as `decimal-more` does.
+-- The measure is the number.
 -- Assumes nothing.
 use Prim.Native.Nat.{ℕ, _<_}
 use native.Mathlib.Omega.{arith}
@@ -17,6 +18,7 @@ use Rattle.text.proofs.lines.+put_number.Tie.{close}
 abbrev μ-put-number : Measures 0 put-number-kinds.ps ℕ
 μ-put-number κs a = a .1 .0
 
+-- what it is given at the measure t, and what a call of itself asks below t
 abbrev put-number-at : ℕ → In 0 put-number-kinds.ps
 put-number-at t =
     and 0 put-number-kinds.ps (is 0 put-number-kinds.ps μ-put-number t) put-number.Pre

@@ -1,6 +1,5 @@
 -- `text::lines::hex_digit` meets its contract: the definition goes by the same test.
 -- Assumes nothing.
-use mathlib.Core.Path.{_≡_, refl}
 use borrow.Author.Needs.{needs}
 use borrow.Author.Tests.{lt-ltb, le-ltb}
 use Rattle.text.specs.Numerals.{hexDigit}

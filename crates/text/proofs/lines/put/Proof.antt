@@ -1,4 +1,4 @@
--- `text::lines::put` meets its contract: the byte takes the place of the first nought after the line (`byte-more`).
+-- `text::lines::put` meets its contract: the byte takes the place of the first zero after the line (`byte-more`).
 -- Assumes nothing.
 use borrow.Author.Needs.{needs}
 use Rattle.text.specs.Line.{byte-more}

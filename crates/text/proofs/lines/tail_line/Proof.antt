@@ -1,9 +1,9 @@
 -- `text::lines::tail_line` meets its contract: `tailLine` goes by the same test (`tail-none`, `tail-some`).
 -- Assumes nothing.
-use mathlib.Core.Path.{_≡_, sym, subst}
+use mathlib.Core.Path.{sym}
 use borrow.Author.Needs.{needs}
-use Rattle.text.specs.Report.{tailLine, tail-none, tail-some}
-use Rattle.text.specs.Line.{Holds, and-then, same-text, from-empty}
+use Rattle.text.specs.Report.{tail-none, tail-some}
+use Rattle.text.specs.Line.{and-then, same-text, from-empty}
 use Rattle.text.proofs.lines.tail_line.Statement.{statement}
 use Rattle.text.proofs.lines.tail_line.Tie as tie
 
