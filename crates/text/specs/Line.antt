@@ -30,9 +30,11 @@ pub record AppendedWithin (most : ℕ) (before : Text) (more : List ℕ) (after 
 
 -- ---- a line fixes its text, and can be read off it
 
+-- what a program writes of it is the line
 pub holds-written : (line : List ℕ) (t : Text) → Holds line t → written t ≡ line
 holds-written line t h = ap (take (t .len)) (h .bytes) ∙ take-at line (replicate (96 - length line) 0) (t .len) (sym (h .len))
 
+-- two texts that hold one line are equal
 pub holds-one : (line : List ℕ) (t u : Text) → Holds line t → Holds line u → t ≡ u
 holds-one line t u h k = λ i. record { bytes = (h .bytes ∙ sym (k .bytes)) i; len = (h .len ∙ sym (k .len)) i }
 

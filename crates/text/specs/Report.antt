@@ -44,22 +44,25 @@ abbrev pub lastLine : ℕ → ℕ → ℕ → List ℕ
 lastLine clean repaired refused =
     ascii "clean " ++ (decimal clean ++ (ascii " repaired " ++ (decimal repaired ++ (ascii " refused " ++ (decimal refused ++ ascii "\n")))))
 
--- one for a fate of the kind that is counted
+-- 1 for a clean Sector
 abbrev pub isClean : Fate → ℕ
 isClean (Clean t) = 1
 isClean (Repaired t changed) = 0
 isClean (Refused number) = 0
 
+-- 1 for a repaired Sector
 abbrev pub isRepaired : Fate → ℕ
 isRepaired (Clean t) = 0
 isRepaired (Repaired t changed) = 1
 isRepaired (Refused number) = 0
 
+-- 1 for a refused Sector
 abbrev pub isRefused : Fate → ℕ
 isRefused (Clean t) = 0
 isRefused (Repaired t changed) = 0
 isRefused (Refused number) = 1
 
+-- how many of the Sectors are of a kind
 abbrev pub howMany : (Fate → ℕ) → List Fate → ℕ
 howMany is [] = 0
 howMany is (fate ∷ rest) = is fate + howMany is rest

@@ -10,6 +10,7 @@ use crate::Fate;
 use crate::Text;
 use address::HeaderTime;
 
+// A text that says nothing yet.
 fn empty() -> Text
     ensures { λ r. ⌜ Holds [] r ⌝ }
 {
@@ -117,8 +118,7 @@ fn put_number(t: Text, n: u64) -> Text
     if n < 10 {
         return put(t, decimal_digit(n));
     }
-    let tenth = put_number(t, n / 10);
-    put(tenth, decimal_digit(n % 10))
+    put(put_number(t, n / 10), decimal_digit(n % 10))
 }
 
 // A byte in two capital hex digits.
