@@ -101,12 +101,8 @@ pub fn repair(received: &[u8], out: &mut [u8]) -> Repaired
     let near = found.near;
     let s = found.sector;
     let right = rules_right(&s);
-    if !near {
-        outcome::wipe(out, 2352);
-        return Repaired::NoSectorNear;
-    }
-    if !right {
-        outcome::wipe(out, 2352);
+    if !(near & right) {
+        outcome::clear(out);
         return Repaired::NoSectorNear;
     }
     outcome::copy(&s, out);

@@ -13,7 +13,7 @@ use lib.Dec.{ltb}
 use lib.ListN.{length, getD}
 use lib.Seq.{ext-getD}
 use Rattle.outcome.specs.Bytes.{Bytes}
-use Rattle.outcome.specs.Table.{tabulated, tabulated-at, length-tabulated}
+use Rattle.outcome.specs.Table.{tabulated-at, tabulated-same, length-tabulated}
 use Rattle.outcome.specs.First.{lt-or-le}
 use Rattle.rspc.specs.Words.{place, pNumber, qNumber, pWord, qWord}
 
@@ -33,14 +33,6 @@ length-p s n = length-tabulated (λ r. getD s (place (n / 43) (pNumber (n % 43) 
 pub p-at : (s : List ℕ) (n r : ℕ) → r < 26 → getD (pWord s n) r 0 ≡ getD s (place (n / 43) (pNumber (n % 43) r)) 0
 unfolding pWord
 p-at s n r h = tabulated-at (λ r. getD s (place (n / 43) (pNumber (n % 43) r)) 0) 26 r h
-
--- two words that a rule gives are equal where the rules agree
-tabulated-same : (f g : ℕ → ℕ) (n : ℕ) → ((k : ℕ) → k < n → f k ≡ g k) → tabulated f 0 n ≡ tabulated g 0 n
-tabulated-same f g n h =
-    ext-getD 0 (tabulated f 0 n) (tabulated g 0 n) (length-tabulated f 0 n ∙ sym (length-tabulated g 0 n))
-    (λ k l.
-    let m : k < n = omega (arith, length-tabulated f 0 n) in
-    tabulated-at f n k m ∙ h k m ∙ sym (tabulated-at g n k m))
 
 -- a P codeword takes its bytes from 12 to 2,247
 pub p-same : (s t : List ℕ) (n : ℕ) → n < 86 → SameCovered s t → pWord s n ≡ pWord t n

@@ -9,17 +9,13 @@ use Prim.Native.Nat.{ℕ, zero, suc, _+_, _-_, _*_, _/_, _%_, _<_, _≤_}
 use native.Mathlib.Omega.{arith}
 use lib.Dec.{eqb}
 use lib.ListN.{length, getD}
-use Rattle.outcome.specs.Bytes.{Bytes, bytes-nil, bytes-cons}
-use Rattle.outcome.specs.Table.{tabulated}
+use Rattle.outcome.specs.Bytes.{Bytes}
+use Rattle.outcome.specs.Table.{bytes-tabulated}
 use Rattle.codeword.specs.Code.{Codeword, changes}
 use Rattle.codeword.specs.Changes.{unlike-same, unlike-le}
 use Rattle.codeword.specs.Distance.{codewords-differ}
 use Rattle.rspc.specs.Words.{place, pNumber, qNumber, pWord, qWord}
 use Rattle.rspc.specs.Cover.{SameCovered, SameQParity, length-p, p-at, p-covers, length-q, q-front, q-covers}
-
-bytes-tabulated : (f : ℕ → ℕ) (i n : ℕ) → ((k : ℕ) → f k < 256) → Bytes (tabulated f i n)
-bytes-tabulated f i zero h = bytes-nil
-bytes-tabulated f i (suc n) h = bytes-cons (f i) (tabulated f (suc i) n) (h i) (bytes-tabulated f (suc i) n h)
 
 pub bytes-p : (s : List ℕ) (n : ℕ) → Bytes s → Bytes (pWord s n)
 unfolding pWord

@@ -3,13 +3,13 @@
 use mathlib.Core.Path.{_≡_, sym, ap, ap₂, _∙_}
 use mathlib.Core.List.{List, [], _∷_, _++_}
 use Prim.Native.Nat.{ℕ, zero, suc, _+_, _*_, _<_}
-use native.Mathlib.Nat.{zero-add, suc-add, add-suc, add-zero, mul-one}
+use native.Mathlib.Nat.{zero-add, mul-one}
 use native.Mathlib.Omega.{arith}
 use lib.Bits.{bitXor}
 use lib.ListN.{length, getD}
 use lib.Seq.{ext-getD}
-use Rattle.outcome.specs.Bytes.{Bytes, bytes-nil, bytes-cons}
-use Rattle.outcome.specs.Table.{tabulated, tabulated-at, length-tabulated}
+use Rattle.outcome.specs.Bytes.{Bytes}
+use Rattle.outcome.specs.Table.{tabulated, tabulated-at, tabulated-more, length-tabulated, bytes-tabulated}
 use Rattle.xor.specs.Lists.{added, length-added, added-at}
 use Rattle.field.specs.Field.{timesAlpha, power, mul}
 use Rattle.field.specs.Laws.{mul-power-suc}
@@ -30,16 +30,6 @@ unfolding risen
 risen-at a b k h = tabulated-at (λ k. bitXor (timesAlpha (getD a k 0)) (getD b k 0)) (length a) k h
 
 -- ---- columns
-
--- one value more
-pub tabulated-more : (f : ℕ → ℕ) (i n : ℕ) → tabulated f i (suc n) ≡ tabulated f i n ++ (f (i + n) ∷ [])
-tabulated-more f i zero = ap (λ (x : ℕ). f x ∷ []) (sym (add-zero i))
-tabulated-more f i (suc n) =
-    ap (λ (t : List ℕ). f i ∷ t) (tabulated-more f (suc i) n ∙ ap (λ (x : ℕ). tabulated f (suc i) n ++ (f x ∷ [])) (suc-add i n ∙ sym (add-suc i n)))
-
-bytes-tabulated : (f : ℕ → ℕ) (i n : ℕ) → ((k : ℕ) → f k < 256) → Bytes (tabulated f i n)
-bytes-tabulated f i zero h = bytes-nil
-bytes-tabulated f i (suc n) h = bytes-cons (f i) (tabulated f (suc i) n) (h i) (bytes-tabulated f (suc i) n h)
 
 pub length-column : (w n : ℕ) (s : List ℕ) (k : ℕ) → length (column w n s k) ≡ n
 unfolding column

@@ -2,7 +2,7 @@
 -- Assumes nothing.
 use mathlib.Core.Path.{refl}
 use borrow.Author.Needs.{needs}
-use Rattle.repair.proofs.Ways.{on-incoming, on-outgoing, on-far, on-broken, on-found}
+use Rattle.repair.proofs.Ways.{on-incoming, on-outgoing, on-none, on-found}
 use Rattle.repair.proofs.repair.Statement.{statement}
 use Rattle.repair.proofs.repair.Tie as tie
 
@@ -27,23 +27,15 @@ slice-aggregate-rules-right c = search needs
 rules-right-requires : tie.Need-rules-right-requires
 rules-right-requires c κs = search needs
 
-wipe-requires-2 : tie.Need-wipe-requires-2
-wipe-requires-2 c κs = search needs
+clear-requires : tie.Need-clear-requires
+clear-requires c κs = search needs
 
 same-length-2 : tie.Need-same-length-2
 same-length-2 c = search needs
 
 returns-3 : tie.Need-returns-3
-returns-3 c = on-far _ _ _ (c .before .before .before .before .before .before .before .before .before .before .if1 .left) (c .before .before .before .before .before .before .before .before .before .if2 .left) _ _ (c .before .before .before .before .before .before .before .before .candidate .ensures) (c .before .before .before .before .if3 .taken) (c .before .before .wipe2 .ensures)
-
-wipe-requires-3 : tie.Need-wipe-requires-3
-wipe-requires-3 c κs = search needs
-
-same-length-3 : tie.Need-same-length-3
-same-length-3 c = search needs
-
-returns-4 : tie.Need-returns-4
-returns-4 c = on-broken _ _ _ (c .before .before .before .before .before .before .before .before .before .before .before .if1 .left) (c .before .before .before .before .before .before .before .before .before .before .if2 .left) _ _ (c .before .before .before .before .before .before .before .before .before .candidate .ensures) (c .before .before .before .before .before .if3 .left) _ (c .before .before .before .before .before .before .rules-right .ensures) (c .before .before .before .before .if4 .taken) (c .before .before .wipe3 .ensures)
+returns-3 c =
+    on-none _ _ _ (c .before .before .before .before .before .before .before .before .before .before .if1 .left) (c .before .before .before .before .before .before .before .before .before .if2 .left) _ _ (c .before .before .before .before .before .before .before .before .candidate .ensures) _ (c .before .before .before .before .before .rules-right .ensures) (c .before .before .before .before .if3 .taken) (c .before .before .clear .ensures)
 
 slice-aggregate-copy : tie.Need-slice-aggregate-copy
 slice-aggregate-copy c = search needs
@@ -57,11 +49,13 @@ slice-aggregate-count-changes c = search needs
 count-changes-requires : tie.Need-count-changes-requires
 count-changes-requires c κs = search needs
 
-same-length-4 : tie.Need-same-length-4
-same-length-4 c = search needs
+same-length-3 : tie.Need-same-length-3
+same-length-3 c = search needs
 
-returns-5 : tie.Need-returns-5
-returns-5 c = on-found _ _ _ (c .before .before .before .before .before .before .before .before .before .before .before .before .before .before .if1 .left) (c .before .before .before .before .before .before .before .before .before .before .before .before .before .if2 .left) _ _ (c .before .before .before .before .before .before .before .before .before .before .before .before .candidate .ensures) (c .before .before .before .before .before .before .before .before .if3 .left) _ (c .before .before .before .before .before .before .before .before .before .rules-right .ensures) (c .before .before .before .before .before .before .before .if4 .left) _ (c .before .before .before .before .copy .ensures) _ (c .count-changes .ensures)
+returns-4 : tie.Need-returns-4
+returns-4 c =
+    on-found _ _ _ (c .before .before .before .before .before .before .before .before .before .before .before .before .before .if1 .left) (c .before .before .before .before .before .before .before .before .before .before .before .before .if2 .left) _ _ (c .before .before .before .before .before .before .before .before .before .before .before .candidate .ensures) _ (c .before .before .before .before .before .before .before .before .rules-right .ensures) (c .before .before .before .before .before .before .before .if3 .left) _ (c .before .before .before .before .copy .ensures) _
+    (c .count-changes .ensures)
 
 pub repair-spec : {M : Type 1} → statement M
 repair-spec =
@@ -74,15 +68,12 @@ repair-spec =
     candidate-requires
     slice-aggregate-rules-right
     rules-right-requires
-    wipe-requires-2
+    clear-requires
     same-length-2
     returns-3
-    wipe-requires-3
-    same-length-3
-    returns-4
     slice-aggregate-copy
     copy-requires
     slice-aggregate-count-changes
     count-changes-requires
-    same-length-4
-    returns-5)
+    same-length-3
+    returns-4)
