@@ -6,3 +6,4 @@ pub mod Section
 pub mod Series
 pub mod Chain
 pub mod Chained
+pub mod Parts
