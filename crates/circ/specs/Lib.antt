@@ -1,0 +1,5 @@
+pub mod Rows
+pub mod Chains
+pub mod Step
+pub mod Coding
+pub mod Tables
