@@ -1,0 +1,12 @@
+pub mod Code
+pub mod Nearest
+pub mod Fault
+pub mod Parity
+pub mod Sums
+pub mod Changes
+pub mod Distance
+pub mod NearestLaws
+pub mod FaultLaws
+pub mod Forms
+pub mod Solve
+pub mod ParityLaws

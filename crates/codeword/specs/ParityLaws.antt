@@ -1,0 +1,145 @@
+-- Parity in J bytes in a row, anywhere in a word of any length: there is at most one choice, and with two or four bytes there is one.
+-- Assumes nothing.
+use mathlib.Core.Path.{_≡_, refl, sym, ap, ap₂, _∙_, subst}
+use mathlib.Core.List.{List, [], _∷_, _++_, map, append-nil}
+use Prim.Native.Nat.{ℕ, zero, suc, _+_, _*_, _%_, _≤_, _<_}
+use native.Mathlib.Decide.{ℕ-discrete}
+use native.Mathlib.Omega.{arith}
+use lib.Bits.{bitXor, xor-self}
+use lib.Dec.{T, eqb}
+use lib.ListN.{length, getD, replicate, length-replicate, length-map}
+use Rattle.outcome.specs.Bytes.{Bytes, bytes-nil, bytes-cons, bytes-append, bytes-replicate}
+use Rattle.outcome.specs.Table.{tabulated, length-tabulated, tabulated-at}
+use Rattle.xor.specs.Laws.{xor-cancel, xor-equal}
+use Rattle.field.specs.Field.{power, mul}
+use Rattle.field.specs.Linear.{mul-one-r}
+use Rattle.field.specs.Powers.{power-zero, power-mod}
+use Rattle.field.specs.Laws.{mul-lt, mul-nonzero, mul-power-add}
+use Rattle.codeword.specs.Code.{sum, Codeword}
+use Rattle.codeword.specs.Sums.{sum-lt, sum-append, added, length-added, bytes-added, sum-part}
+use Rattle.codeword.specs.Changes.{unlike-le}
+use Rattle.codeword.specs.Distance.{weight, distance, added-zero}
+use Rattle.codeword.specs.Parity.{Parity}
+use Rattle.codeword.specs.Forms.{Form, value, solves, solved, bytes-values}
+use Rattle.codeword.specs.Solve.{twoForms, two-solve, fourForms, four-solve}
+
+-- ---- at most one choice
+
+weight-le : (d : List ℕ) → weight d ≤ length d
+unfolding weight
+weight-le [] = omega arith
+weight-le (x ∷ d) = omega (arith, unlike-le x 0, weight-le d)
+
+added-twice : (p q : List ℕ) → length p ≡ length q → added p (added p q) ≡ q
+unfolding added
+added-twice [] [] e = refl
+added-twice [] (y ∷ q) e = absurd (omega arith)
+added-twice (x ∷ p) [] e = absurd (omega arith)
+added-twice (x ∷ p) (y ∷ q) e = ap₂ _∷_ (xor-cancel x y) (added-twice p q (omega arith))
+
+-- two choices of J bytes in a row, between a and b, that both make a codeword are one choice
+pub parity-unique : (J : ℕ) (a p q b : List ℕ) → J ≤ 255 → Parity J p (a ++ (p ++ b)) → Parity J q (a ++ (q ++ b)) → p ≡ q
+parity-unique J a p q b k P Q = added-zero p q same (zeros ∙ ap (λ (n : ℕ). replicate n 0) long)
+  where
+    same : length p ≡ length q
+    same = P .long ∙ sym (Q .long)
+
+    long : length (added p q) ≡ length p
+    long = length-added p q same
+
+    hd : Bytes (added p q)
+    hd = bytes-added p q (P .bytes) (Q .bytes)
+
+    code : Codeword J (added p q)
+    code j h =
+        mul-nonzero (sum j (added p q)) (j * length b) (sum-lt j (added p q) hd)
+          (sym (ap (λ (x : ℕ). bitXor x (mul (sum j (added p q)) (power (j * length b)))) (P .code j h))
+           ∙ sym (sum-part j a p (added p q) b (P .bytes) hd (sym long))
+           ∙ ap (λ (l : List ℕ). sum j (a ++ (l ++ b))) (added-twice p q same) ∙ Q .code j h)
+
+    zeros : added p q ≡ replicate (length (added p q)) 0
+    zeros = distance J (added p q) hd (omega (arith, P .long, long)) (omega (arith, P .long, long, weight-le (added p q))) code
+
+-- the same at the end of a word
+pub parity-end-unique : (J : ℕ) (a p q : List ℕ) → J ≤ 255 → Parity J p (a ++ p) → Parity J q (a ++ q) → p ≡ q
+parity-end-unique J a p q k P Q = parity-unique J a p q [] k (at-end p P) (at-end q Q)
+  where
+    at-end : (p : List ℕ) → Parity J p (a ++ p) → Parity J p (a ++ (p ++ []))
+    at-end p P = subst (λ (l : List ℕ). Parity J p (a ++ l)) (sym (append-nil p)) P
+
+-- ---- by the sums
+
+-- at the end: the sums of the parity are those of the word before it, moved up by the parity's length
+pub parity-by-sums : (J : ℕ) (w p : List ℕ) → Bytes w → ((j : ℕ) → j < J → sum j p ≡ mul (sum j w) (power (j * length p))) → Codeword J (w ++ p)
+parity-by-sums J w p h s j l = sum-append j w p h ∙ ap (λ (x : ℕ). bitXor x (sum j p)) (sym (s j l)) ∙ xor-self (sum j p)
+
+-- anywhere: what is to be added to the bytes p has, moved up by what comes after it, the sums of the word
+pub parity-added : (J : ℕ) (a p q b : List ℕ) → Bytes p → Bytes q → length p ≡ length q
+    → ((j : ℕ) → j < J → mul (sum j q) (power (j * length b)) ≡ sum j (a ++ (p ++ b))) → Codeword J (a ++ (added p q ++ b))
+parity-added J a p q b hp hq e s j l =
+    sum-part j a p q b hp hq e ∙ ap (bitXor (sum j (a ++ (p ++ b)))) (s j l) ∙ xor-self (sum j (a ++ (p ++ b)))
+
+-- moved down and up again
+pub power-back : (x i n : ℕ) → x < 256 → (i + n) % 255 ≡ 0 → mul (mul x (power i)) (power n) ≡ x
+power-back x i n h e =
+    mul-power-add x i n h ∙ ap (mul x) (sym (power-mod (i + n)) ∙ ap power e ∙ power-zero) ∙ mul-one-r x
+
+-- ---- there is a choice
+
+added-zeros : (n : ℕ) (q : List ℕ) → length q ≡ n → added (replicate n 0) q ≡ q
+unfolding added
+added-zeros zero [] e = refl
+added-zeros zero (y ∷ q) e = absurd (omega arith)
+added-zeros (suc n) [] e = absurd (omega arith)
+added-zeros (suc n) (y ∷ q) e = ap (λ (t : List ℕ). y ∷ t) (added-zeros n q (omega arith))
+
+bytes-tabulated : (f : ℕ → ℕ) (i n : ℕ) → ((k : ℕ) → f k < 256) → Bytes (tabulated f i n)
+bytes-tabulated f i zero h = bytes-nil
+bytes-tabulated f i (suc n) h = bytes-cons (f i) (tabulated f (suc i) n) (h i) (bytes-tabulated f (suc i) n h)
+
+module _ (fs : List Form) (s : T (solves fs)) (a b : List ℕ) (ha : Bytes a) (hb : Bytes b) where
+  abbrev J : ℕ
+  J = length fs
+
+  -- the word with zeros where the parity is to stand
+  abbrev blank : List ℕ
+  blank = a ++ (replicate J 0 ++ b)
+
+  abbrev target : ℕ → ℕ
+  target j = mul (sum j blank) (power (254 * (j * length b)))
+
+  abbrev filled : List ℕ
+  filled = map (value (tabulated target 0 J)) fs
+
+  blank-lt : (j : ℕ) → sum j blank < 256
+  blank-lt j = sum-lt j blank (bytes-append a (replicate J 0 ++ b) ha (bytes-append (replicate J 0) b (bytes-replicate J 0 (omega arith)) hb))
+
+  target-bytes : Bytes (tabulated target 0 J)
+  target-bytes = bytes-tabulated target 0 J (λ j. mul-lt (sum j blank) (254 * (j * length b)) (blank-lt j))
+
+  filled-sums : (j : ℕ) → j < J → mul (sum j filled) (power (j * length b)) ≡ sum j blank
+  filled-sums j h =
+      ap (λ (x : ℕ). mul x (power (j * length b)))
+        (solved fs (tabulated target 0 J) s target-bytes (length-tabulated target 0 J) j h ∙ tabulated-at target J j h)
+      ∙ power-back (sum j blank) (254 * (j * length b)) (j * length b) (blank-lt j) (omega arith)
+
+  parity-exists : (p : List ℕ) × Parity J p (a ++ (p ++ b))
+  parity-exists =
+      (filled,
+       record {
+         long = length-map fs (value (tabulated target 0 J));
+         bytes = bytes-values fs (tabulated target 0 J) s target-bytes;
+         code =
+           subst (λ (l : List ℕ). Codeword J (a ++ (l ++ b))) (added-zeros J filled (length-map fs (value (tabulated target 0 J))))
+             (parity-added J a (replicate J 0) filled b (bytes-replicate J 0 (omega arith)) (bytes-values fs (tabulated target 0 J) s target-bytes)
+               (length-replicate {A = ℕ} J 0 ∙ sym (length-map fs (value (tabulated target 0 J)))) filled-sums);
+       })
+
+-- two bytes in a row, and four, between any a and b
+pub two-exist : (a b : List ℕ) → Bytes a → Bytes b → (p : List ℕ) × Parity 2 p (a ++ (p ++ b))
+unfolding twoForms
+two-exist = parity-exists twoForms two-solve
+
+pub four-exist : (a b : List ℕ) → Bytes a → Bytes b → (p : List ℕ) × Parity 4 p (a ++ (p ++ b))
+unfolding fourForms
+four-exist = parity-exists fourForms four-solve

@@ -1,0 +1,58 @@
+-- Bytes with given sums. Bytes p with the sums t are the numbers before the powers of a polynomial that is t at 1, α, α², ..; Newton's
+-- differences give it, and since the places are powers of α, one division a difference is enough.
+-- Assumes nothing.
+use mathlib.Core.List.{List, [], _∷_}
+use lib.Dec.{T}
+use Rattle.field.specs.Field.{timesAlpha, power, mul, mulBits}
+use Rattle.codeword.specs.Code.{sum}
+use Rattle.codeword.specs.Forms.{Form, byte, plus, alpha, times, solves}
+
+-- ---- two bytes: (244) is the inverse of 1 + α
+
+abbrev line : Form
+line = times (plus (byte 0) (byte 1)) 244
+
+unfoldable pub twoForms : List Form
+twoForms = line ∷ plus (byte 0) line ∷ []
+
+pub two-solve : T (solves twoForms)
+unfolding solves twoForms sum mul mulBits timesAlpha power
+two-solve = tt
+
+-- ---- four bytes: 75 is the inverse of α(1 + α)(1 + α²), and 162 of α³(1 + α)(1 + α²)(1 + α³)
+
+-- the differences of t, of those, and of those
+abbrev first0 : Form
+first0 = plus (byte 0) (byte 1)
+
+abbrev first1 : Form
+first1 = plus (byte 1) (byte 2)
+
+abbrev second0 : Form
+second0 = plus first1 (alpha first0)
+
+abbrev second1 : Form
+second1 = plus (plus (byte 2) (byte 3)) (alpha first1)
+
+abbrev third : Form
+third = plus second1 (alpha (alpha second0))
+
+-- t0 + (x + 1) (slope + (x + α) (bend + (x + α²) twist)), multiplied out from within
+abbrev twist : Form
+twist = times third 162
+
+abbrev inner : Form
+inner = plus (times second0 75) (alpha (alpha twist))
+
+abbrev middle1 : Form
+middle1 = plus inner (alpha twist)
+
+abbrev middle0 : Form
+middle0 = plus (alpha inner) (times first0 244)
+
+unfoldable pub fourForms : List Form
+fourForms = twist ∷ plus middle1 twist ∷ plus middle0 middle1 ∷ plus middle0 (byte 0) ∷ []
+
+pub four-solve : T (solves fourForms)
+unfolding solves fourForms sum mul mulBits timesAlpha power
+four-solve = tt
