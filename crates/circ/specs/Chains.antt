@@ -39,6 +39,10 @@ module _ (q p : List ℕ → List ℕ) where
   unfoldable pub c1Word : (ℕ → List ℕ) → ℕ → List ℕ
   c1Word f n = withP p (outAt between (λ m. c2Word f m) n)
 
+-- the C1 word that a reader of the frames g meets at step n, as it comes in
+unfoldable pub metC1 : (ℕ → List ℕ) → ℕ → List ℕ
+metC1 g n = outAt readerBeforeC1 (λ m. inverted (g m)) n
+
 -- C1 hands on the 28 rows of its word that are no P bytes; fix is what becomes of the word
 unfoldable pub throughC1 : (List ℕ → List ℕ) → List ℕ → List ℕ
 throughC1 fix w = take 28 (fix w)
@@ -67,7 +71,3 @@ module _ (fix₁ fix₂ : List ℕ → List ℕ) (mark : List ℕ → ℕ) where
   -- the store of a fresh reader before step n, when the frames g go in
   unfoldable pub readerAt : (ℕ → List ℕ) → ℕ → List ℕ
   readerAt g n = chainAt readerBeforeC1 readerBetween readerAfterC2 inverted (throughC1 fix₁) (throughC2 fix₂ mark) g n
-
-  -- the C1 word that the reader meets at step n, before anything is put right
-  unfoldable pub metC1 : (ℕ → List ℕ) → ℕ → List ℕ
-  metC1 g n = outAt readerBeforeC1 (λ m. inverted (g m)) n

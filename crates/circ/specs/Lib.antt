@@ -3,3 +3,7 @@ pub mod Chains
 pub mod Step
 pub mod Coding
 pub mod Tables
+pub mod Words
+pub mod Writing
+pub mod ThereAndBack
+pub mod Codes

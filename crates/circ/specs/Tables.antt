@@ -3,16 +3,16 @@
 use mathlib.Core.Path.{_≡_, refl, sym, ap, _∙_}
 use mathlib.Core.Bool.{Bool, true, false, _&&_, _||_}
 use mathlib.Core.Logic.{_⊎_, inl, inr}
-use mathlib.Core.List.{List, [], _∷_, map}
+use mathlib.Core.List.{List, [], _∷_, _++_, map}
 use Prim.Native.Nat.{ℕ, zero, suc, _+_, _≤_, _<_}
 use native.Mathlib.Nat.{not-suc-le-zero, le-of-suc-le-suc}
 use native.Mathlib.Omega.{arith}
 use lib.Dec.{T, eqb, eqb→eq, ltb, ltb→lt, leb, leb→le}
-use lib.ListN.{length, take, drop, getD}
+use lib.ListN.{length, take, drop, getD, replicate}
 use lib.Seq.{drop-cons, take-all}
-use Rattle.outcome.specs.Bytes.{Bytes}
+use Rattle.outcome.specs.Bytes.{Bytes, bytes-append, bytes-replicate}
 use Rattle.outcome.specs.Table.{below, and-left, and-right}
-use Rattle.xor.specs.Lists.{length-added, added-twice, bytes-added}
+use Rattle.xor.specs.Lists.{length-added, added-twice}
 use Rattle.circ.specs.Rows.{picked, firstTwelve, lastTwelve, placed, rowsOfBytes, collected, beforeC2, between, afterC1, readerBeforeC1, readerBetween, readerAfterC2, mask, inverted}
 
 -- ---- what the waits of a row add up to in writer and reader
@@ -90,12 +90,32 @@ pub placed-collected : (f : List ℕ) → length f ≡ 24 → collected (placed 
 unfolding collected rowsOfBytes placed firstTwelve lastTwelve listed
 placed-collected f e = listed-is 24 0 f (omega arith) ∙ take-all 24 f (omega arith)
 
+-- the byte that a frame gives to its row
+pub placed-at : (f : List ℕ) (b : ℕ) → length f ≡ 24 → b < 24 → getD (placed f) (getD rowsOfBytes b 0) 0 ≡ getD f b 0
+placed-at f b e h = sym (collected-at (placed f) b h) ∙ ap (λ (t : List ℕ). getD t b 0) (placed-collected f e)
+
 bytes-picked : (places w : List ℕ) → Bytes w → Bytes (picked places w)
 bytes-picked [] w h i = omega arith
 bytes-picked (p ∷ places) w h zero = h p
 bytes-picked (p ∷ places) w h (suc i) = bytes-picked places w h i
 
+pub bytes-placed : (f : List ℕ) → Bytes f → Bytes (placed f)
+unfolding placed
+bytes-placed f h =
+    bytes-append (picked firstTwelve f) (replicate 4 0 ++ picked lastTwelve f) (bytes-picked firstTwelve f h)
+    (bytes-append (replicate 4 0) (picked lastTwelve f) (bytes-replicate 4 0 (omega arith)) (bytes-picked lastTwelve f h))
+
 -- ---- parity inverted
+
+pub mask-data : (b : ℕ) → b < 24 → getD mask (getD rowsOfBytes b 0) 0 ≡ 0
+unfolding mask rowsOfBytes
+mask-data b h = eqb→eq (getD mask (getD rowsOfBytes b 0) 0) 0 (below (λ b. eqb (getD mask (getD rowsOfBytes b 0) 0) 0) 24 tt b h)
+
+pub mask-parity : (i : ℕ) → i < 4 → (getD mask (12 + i) 0 ≡ 255) × (getD mask (28 + i) 0 ≡ 255)
+unfolding mask
+mask-parity i h =
+    (eqb→eq (getD mask (12 + i) 0) 255 (below (λ i. eqb (getD mask (12 + i) 0) 255) 4 tt i h),
+    eqb→eq (getD mask (28 + i) 0) 255 (below (λ i. eqb (getD mask (28 + i) 0) 255) 4 tt i h))
 
 pub length-inverted : (w : List ℕ) → length w ≡ 32 → length (inverted w) ≡ 32
 unfolding inverted mask

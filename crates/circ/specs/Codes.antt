@@ -1,0 +1,109 @@
+-- The two codes of CIRC (Annex C.7): C2 and C1 are codewords of four sums; reading hands on the codeword near a word, if there is one.
+-- Assumes nothing.
+use mathlib.Core.Path.{_≡_, refl, sym, ap, ap₂, _∙_, subst}
+use mathlib.Core.List.{List, [], _∷_, _++_, map, append-nil}
+use mathlib.Core.Option.{Option, none, some}
+use Prim.Native.Nat.{ℕ, zero, suc, _%_, _<_, _≤_}
+use native.Mathlib.Nat.{mod-eq-of-lt}
+use native.Mathlib.Omega.{arith}
+use lib.ListN.{length, take, drop}
+use Rattle.outcome.specs.Bytes.{Bytes, bytes-take, bytes-drop, bytes-nil}
+use Rattle.codeword.specs.Code.{Codeword, Near}
+use Rattle.codeword.specs.Nearest.{nearest}
+use Rattle.codeword.specs.NearestLaws.{nearest-complete}
+use Rattle.codeword.specs.Changes.{changes-self}
+use Rattle.codeword.specs.Distance.{sum-zeros}
+use Rattle.codeword.specs.Parity.{Parity}
+use Rattle.codeword.specs.ParityLaws.{four-exist}
+use Rattle.circ.specs.Chains.{withQ, withP}
+use Rattle.circ.specs.Coding.{Coding, Correcting}
+
+-- each element as a byte: a list of bytes as it is
+unfoldable asBytes : List ℕ → List ℕ
+asBytes w = map (λ x. x % 256) w
+
+bytes-as : (w : List ℕ) → Bytes (asBytes w)
+unfolding asBytes
+bytes-as [] i = omega arith
+bytes-as (x ∷ w) zero = omega arith
+bytes-as (x ∷ w) (suc i) = bytes-as w i
+
+as-is : (w : List ℕ) → Bytes w → asBytes w ≡ w
+unfolding asBytes
+as-is [] h = refl
+as-is (x ∷ w) h = ap₂ _∷_ (mod-eq-of-lt (h 0)) (as-is w (λ i. h (suc i)))
+
+-- the parity between a and b: the four bytes that make a codeword there. There is one choice of them (`parity-unique`).
+parity : (a b : List ℕ) → (p : List ℕ) × Parity 4 p (asBytes a ++ (p ++ asBytes b))
+parity a b = four-exist (asBytes a) (asBytes b) (bytes-as a) (bytes-as b)
+
+pub parityBetween : List ℕ → List ℕ → List ℕ
+parityBetween a b = parity a b .0
+
+-- the Q bytes of a C2 word, rows 12 to 15 of its 28
+unfoldable pub qOf : List ℕ → List ℕ
+qOf w = parityBetween (take 12 w) (drop 16 w)
+
+-- the P bytes of a C1 word, behind its 28 other rows
+unfoldable pub pOf : List ℕ → List ℕ
+pOf w = parityBetween w []
+
+-- what is handed on: the codeword near the word, or the word as it came
+abbrev pub handedOn : List ℕ → Option (List ℕ) → List ℕ
+handedOn w (some c) = c
+handedOn w none = w
+
+-- the mark of a word with no codeword near
+abbrev pub markOf : Option (List ℕ) → ℕ
+markOf (some c) = 0
+markOf none = 1
+
+unfoldable pub corrected : List ℕ → List ℕ
+corrected w = handedOn w (nearest 4 w)
+
+unfoldable pub lost : List ℕ → ℕ
+lost w = markOf (nearest 4 w)
+
+-- ---- they are as the laws over streams ask
+
+-- the parity of bytes makes a codeword
+pub parity-right : (a b : List ℕ) → Bytes a → Bytes b → Parity 4 (parityBetween a b) (a ++ (parityBetween a b ++ b))
+unfolding parityBetween
+parity-right a b ha hb =
+    subst (λ (t : List ℕ). Parity 4 (parity a b .0) (t ++ (parity a b .0 ++ b))) (as-is a ha)
+    (subst (λ (t : List ℕ). Parity 4 (parity a b .0) (asBytes a ++ (parity a b .0 ++ t))) (as-is b hb) (parity a b .1))
+
+four-bytes : (a b : List ℕ) → length (parityBetween a b) ≡ 4
+unfolding parityBetween
+four-bytes a b = parity a b .1 .long
+
+bytes-parity : (a b : List ℕ) → Bytes (parityBetween a b)
+unfolding parityBetween
+bytes-parity a b = parity a b .1 .bytes
+
+pub circ-coding : Coding (Codeword 4) qOf pOf
+unfolding qOf pOf withQ withP
+circ-coding =
+    record {
+      four-q = λ w. four-bytes (take 12 w) (drop 16 w);
+      four-p = λ w. four-bytes w [];
+      bytes-q = λ w h. bytes-parity (take 12 w) (drop 16 w);
+      bytes-p = λ w h. bytes-parity w [];
+      code-q = λ w e h. parity-right (take 12 w) (drop 16 w) (bytes-take 12 w h) (bytes-drop 16 w h) .code;
+      code-p = λ w e h. subst (λ (t : List ℕ). Codeword 4 (w ++ t)) (append-nil (parityBetween w [])) (parity-right w [] h bytes-nil .code);
+    }
+
+-- a codeword is near itself
+pub codeword-found : (w : List ℕ) → length w ≤ 255 → Bytes w → Codeword 4 w → nearest 4 w ≡ some w
+codeword-found w k h c =
+    nearest-complete 4 w h (omega arith) k w (record { long = refl; bytes = h; close = omega (arith, changes-self w); code = c })
+
+pub circ-correcting : Correcting (Codeword 4) corrected corrected lost
+unfolding corrected lost
+circ-correcting =
+    record {
+      zeros = λ n j h. sum-zeros j n;
+      keeps₁ = λ w e h c. ap (handedOn w) (codeword-found w (omega arith) h c);
+      keeps₂ = λ w e h c. ap (handedOn w) (codeword-found w (omega arith) h c);
+      sure = λ w e h c. ap markOf (codeword-found w (omega arith) h c);
+    }
