@@ -7,3 +7,4 @@ pub mod Words
 pub mod Writing
 pub mod ThereAndBack
 pub mod Codes
+pub mod Answers

@@ -13,23 +13,23 @@ abbrev pub picked : List ℕ → List ℕ → List ℕ
 picked places w = map (λ i. getD w i 0) places
 
 -- the F1 bytes that rows 0 to 11 carry
-unfoldable pub firstTwelve : List ℕ
+abbrev pub firstTwelve : List ℕ
 firstTwelve = 0 ∷ 1 ∷ 8 ∷ 9 ∷ 16 ∷ 17 ∷ 2 ∷ 3 ∷ 10 ∷ 11 ∷ 18 ∷ 19 ∷ []
 
 -- the F1 bytes that rows 16 to 27 carry
-unfoldable pub lastTwelve : List ℕ
+abbrev pub lastTwelve : List ℕ
 lastTwelve = 4 ∷ 5 ∷ 12 ∷ 13 ∷ 20 ∷ 21 ∷ 6 ∷ 7 ∷ 14 ∷ 15 ∷ 22 ∷ 23 ∷ []
 
 -- the 28 rows of an F1-frame; rows 12 to 15 are free for Q
-unfoldable pub placed : List ℕ → List ℕ
+abbrev pub placed : List ℕ → List ℕ
 placed frame = picked firstTwelve frame ++ (replicate 4 0 ++ picked lastTwelve frame)
 
 -- the row that carries each F1 byte
-unfoldable pub rowsOfBytes : List ℕ
+abbrev pub rowsOfBytes : List ℕ
 rowsOfBytes = 0 ∷ 1 ∷ 6 ∷ 7 ∷ 16 ∷ 17 ∷ 22 ∷ 23 ∷ 2 ∷ 3 ∷ 8 ∷ 9 ∷ 18 ∷ 19 ∷ 24 ∷ 25 ∷ 4 ∷ 5 ∷ 10 ∷ 11 ∷ 20 ∷ 21 ∷ 26 ∷ 27 ∷ []
 
 -- the F1-frame that these rows carry
-unfoldable pub collected : List ℕ → List ℕ
+abbrev pub collected : List ℕ → List ℕ
 collected rows = picked rowsOfBytes rows
 
 -- the doubt mark that these rows carry: 1 where row 28 or row 29 holds a mark

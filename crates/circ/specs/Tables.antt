@@ -47,11 +47,10 @@ carries-test r t = carries-of r (ltb r 12) (leb 16 r) (ltb r 28) t (ltb→lt r 1
 module _ (b : ℕ) (h : b < 24) where
   -- the row of an F1 byte
   pub byte-carried : Carries (getD rowsOfBytes b 0)
-  unfolding rowsOfBytes
   byte-carried = carries-test (getD rowsOfBytes b 0) (below (λ b. carriesTest (getD rowsOfBytes b 0)) 24 tt b h)
 
   pub around-c2 : getD beforeC2 (getD rowsOfBytes b 0) 0 + getD readerAfterC2 (getD rowsOfBytes b 0) 0 ≡ 2
-  unfolding rowsOfBytes beforeC2 readerAfterC2
+  unfolding beforeC2 readerAfterC2
   around-c2 =
       eqb→eq (getD beforeC2 (getD rowsOfBytes b 0) 0 + getD readerAfterC2 (getD rowsOfBytes b 0) 0) 2
       (below (λ b. eqb (getD beforeC2 (getD rowsOfBytes b 0) 0 + getD readerAfterC2 (getD rowsOfBytes b 0) 0) 2) 24 tt b h)
@@ -64,15 +63,12 @@ map-at g (x ∷ l) zero h = refl
 map-at g (x ∷ l) (suc i) h = map-at g l i (le-of-suc-le-suc h)
 
 pub collected-at : (u : List ℕ) (b : ℕ) → b < 24 → getD (collected u) b 0 ≡ getD u (getD rowsOfBytes b 0) 0
-unfolding collected rowsOfBytes
 collected-at u b h = map-at (λ r. getD u r 0) rowsOfBytes b h
 
 pub length-collected : (u : List ℕ) → length (collected u) ≡ 24
-unfolding collected rowsOfBytes
 length-collected u = refl
 
 pub length-placed : (f : List ℕ) → length (placed f) ≡ 28
-unfolding placed firstTwelve lastTwelve
 length-placed f = refl
 
 -- the n bytes of l from i on, one by one
@@ -87,7 +83,7 @@ listed-is (suc n) i l h = rw (drop-cons l i 0 (omega arith)) (ap (λ (t : List �
 
 -- an F1-frame placed in the rows and collected from them is the frame
 pub placed-collected : (f : List ℕ) → length f ≡ 24 → collected (placed f) ≡ f
-unfolding collected rowsOfBytes placed firstTwelve lastTwelve listed
+unfolding listed
 placed-collected f e = listed-is 24 0 f (omega arith) ∙ take-all 24 f (omega arith)
 
 -- the byte that a frame gives to its row
@@ -100,7 +96,6 @@ bytes-picked (p ∷ places) w h zero = h p
 bytes-picked (p ∷ places) w h (suc i) = bytes-picked places w h i
 
 pub bytes-placed : (f : List ℕ) → Bytes f → Bytes (placed f)
-unfolding placed
 bytes-placed f h =
     bytes-append (picked firstTwelve f) (replicate 4 0 ++ picked lastTwelve f) (bytes-picked firstTwelve f h)
     (bytes-append (replicate 4 0) (picked lastTwelve f) (bytes-replicate 4 0 (omega arith)) (bytes-picked lastTwelve f h))
@@ -108,7 +103,7 @@ bytes-placed f h =
 -- ---- parity inverted
 
 pub mask-data : (b : ℕ) → b < 24 → getD mask (getD rowsOfBytes b 0) 0 ≡ 0
-unfolding mask rowsOfBytes
+unfolding mask
 mask-data b h = eqb→eq (getD mask (getD rowsOfBytes b 0) 0) 0 (below (λ b. eqb (getD mask (getD rowsOfBytes b 0) 0) 0) 24 tt b h)
 
 pub mask-parity : (i : ℕ) → i < 4 → (getD mask (12 + i) 0 ≡ 255) × (getD mask (28 + i) 0 ≡ 255)
