@@ -45,6 +45,12 @@ changes-none (x ∷ a) (y ∷ b) e h = go (ℕ-discrete x y) (changes-none a b (
     go (yes p) r = ap₂ _∷_ p (r (omega (arith, unlike-same x y p)))
     go (no n) r = absurd (omega (arith, unlike-other x y n))
 
+pub changes-le : (a b : List ℕ) → changes a b ≤ length a
+unfolding changes
+changes-le [] b = omega arith
+changes-le (x ∷ a) [] = omega arith
+changes-le (x ∷ a) (y ∷ b) = omega (arith, unlike-le x y, changes-le a b)
+
 pub changes-set : (w : List ℕ) (i v : ℕ) → changes w (set w i v) ≤ 1
 unfolding changes
 changes-set [] i v = omega arith

@@ -17,6 +17,7 @@ use Rattle.field.specs.Linear.{timesAlpha-xor, timesAlpha-zero, mul-xor, mul-xo
 use Rattle.field.specs.Powers.{timesAlpha-lt, power-lt}
 use Rattle.field.specs.Laws.{mul-comm, mul-assoc, mul-byte}
 use Rattle.codeword.specs.Code.{sum}
+use Rattle.codeword.specs.Parity.{WithSums}
 
 -- byte i; the sum of two forms; α times a form; a form times a number
 pub data Form : Type 0 where
@@ -154,24 +155,25 @@ units fs = allBelow (λ j. allBelow (unit fs j) (length fs)) (length fs)
 unfoldable pub solves : List Form → Bool
 solves fs = allSmall fs && units fs
 
-module _ (fs : List Form) (t : List ℕ) (s : T (solves fs)) (h : Bytes t) where
-  pub solved : length t ≡ length fs → (j : ℕ) → j < length fs → sum j (map (value t) fs) ≡ getD t j 0
-  unfolding solves
-  solved e j l =
-      sum-factors j fs t (and-left (allSmall fs) (units fs) s) h
-      ∙ dot-same (λ n. sum j (map (factor n) fs)) (λ n. cond (eqb j n) 1 0) t (λ n k. at n (omega arith))
-      ∙ dot-byte j t
-    where
-      at : (n : ℕ) → n < length fs → sum j (map (factor n) fs) ≡ cond (eqb j n) 1 0
-      at n k =
-          eqb→eq (sum j (map (factor n) fs)) (cond (eqb j n) 1 0)
-            (below (unit fs j) (length fs) (below (λ j. allBelow (unit fs j) (length fs)) (length fs) (and-right (allSmall fs) (units fs) s) j l) n k)
+-- forms that pass it are bytes with the sums t
+pub solved : (fs : List Form) (t : List ℕ) → T (solves fs) → Bytes t → length t ≡ length fs → WithSums t (map (value t) fs)
+unfolding solves
+solved fs t s h e =
+    record {
+      long = length-map fs (value t) ∙ sym e;
+      bytes = values-bytes fs (and-left (allSmall fs) (units fs) s);
+      sums = λ j l.
+        sum-factors j fs t (and-left (allSmall fs) (units fs) s) h
+        ∙ dot-same (λ n. sum j (map (factor n) fs)) (λ n. cond (eqb j n) 1 0) t (λ n k. at j n (omega arith) (omega arith))
+        ∙ dot-byte j t;
+    }
+  where
+    values-bytes : (fs : List Form) → T (allSmall fs) → Bytes (map (value t) fs)
+    values-bytes [] s = bytes-nil
+    values-bytes (f ∷ fs) s =
+        bytes-cons (value t f) (map (value t) fs) (value-lt t h f (and-left (small f) (allSmall fs) s)) (values-bytes fs (and-right (small f) (allSmall fs) s))
 
-  pub bytes-values : Bytes (map (value t) fs)
-  unfolding solves
-  bytes-values = each fs (and-left (allSmall fs) (units fs) s)
-    where
-      each : (fs : List Form) → T (allSmall fs) → Bytes (map (value t) fs)
-      each [] s = bytes-nil
-      each (f ∷ fs) s =
-          bytes-cons (value t f) (map (value t) fs) (value-lt t h f (and-left (small f) (allSmall fs) s)) (each fs (and-right (small f) (allSmall fs) s))
+    at : (j n : ℕ) → j < length fs → n < length fs → sum j (map (factor n) fs) ≡ cond (eqb j n) 1 0
+    at j n l k =
+        eqb→eq (sum j (map (factor n) fs)) (cond (eqb j n) 1 0)
+          (below (unit fs j) (length fs) (below (λ j. allBelow (unit fs j) (length fs)) (length fs) (and-right (allSmall fs) (units fs) s) j l) n k)

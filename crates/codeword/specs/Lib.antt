@@ -2,6 +2,7 @@ pub mod Code
 pub mod Nearest
 pub mod Fault
 pub mod Parity
+pub mod Pair
 pub mod Sums
 pub mod Changes
 pub mod Distance

@@ -7,7 +7,7 @@ use native.Mathlib.Decide.{ℕ-discrete}
 use native.Mathlib.Omega.{arith}
 use lib.Bits.{bitXor, xor-self}
 use lib.Dec.{T, eqb}
-use lib.ListN.{length, getD, replicate, length-replicate, length-map}
+use lib.ListN.{length, getD, replicate, length-replicate}
 use Rattle.outcome.specs.Bytes.{Bytes, bytes-nil, bytes-cons, bytes-append, bytes-replicate}
 use Rattle.outcome.specs.Table.{tabulated, length-tabulated, tabulated-at}
 use Rattle.xor.specs.Laws.{xor-cancel, xor-equal}
@@ -16,11 +16,11 @@ use Rattle.field.specs.Linear.{mul-one-r}
 use Rattle.field.specs.Powers.{power-zero, power-mod}
 use Rattle.field.specs.Laws.{mul-lt, mul-nonzero, mul-power-add}
 use Rattle.codeword.specs.Code.{sum, Codeword}
-use Rattle.codeword.specs.Sums.{sum-lt, sum-append, added, length-added, bytes-added, sum-part}
-use Rattle.codeword.specs.Changes.{unlike-le}
-use Rattle.codeword.specs.Distance.{weight, distance, added-zero}
-use Rattle.codeword.specs.Parity.{Parity}
-use Rattle.codeword.specs.Forms.{Form, value, solves, solved, bytes-values}
+use Rattle.codeword.specs.Sums.{times-0, sum-lt, sum-append, added, length-added, bytes-added, sum-part}
+use Rattle.codeword.specs.Changes.{unlike-le, changes-le}
+use Rattle.codeword.specs.Distance.{weight, distance, added-zero, same-sums}
+use Rattle.codeword.specs.Parity.{WithSums, Parity}
+use Rattle.codeword.specs.Forms.{Form, value, solves, solved}
 use Rattle.codeword.specs.Solve.{twoForms, two-solve, fourForms, four-solve}
 
 -- ---- at most one choice
@@ -69,9 +69,33 @@ parity-end-unique J a p q k P Q = parity-unique J a p q [] k (at-end p P) (at-en
 
 -- ---- by the sums
 
+-- there is only one list of bytes with given sums
+pub with-sums-unique : (t p q : List ℕ) → length t ≤ 255 → WithSums t p → WithSums t q → p ≡ q
+with-sums-unique t p q k P Q =
+    same-sums (length t) p q (P .long ∙ sym (Q .long)) (omega (arith, P .long)) (P .bytes) (Q .bytes) (λ j h. P .sums j h ∙ sym (Q .sums j h))
+      (omega (arith, P .long, changes-le p q))
+
 -- at the end: the sums of the parity are those of the word before it, moved up by the parity's length
-pub parity-by-sums : (J : ℕ) (w p : List ℕ) → Bytes w → ((j : ℕ) → j < J → sum j p ≡ mul (sum j w) (power (j * length p))) → Codeword J (w ++ p)
-parity-by-sums J w p h s j l = sum-append j w p h ∙ ap (λ (x : ℕ). bitXor x (sum j p)) (sym (s j l)) ∙ xor-self (sum j p)
+pub parity-behind : (w t p : List ℕ) → Bytes w → ((j : ℕ) → j < length t → getD t j 0 ≡ mul (sum j w) (power (j * length t))) → WithSums t p
+    → Parity (length t) p (w ++ p)
+parity-behind w t p h s P =
+    record {
+      long = P .long;
+      bytes = P .bytes;
+      code = λ j l.
+        sum-append j w p h
+        ∙ ap₂ bitXor (ap (λ (n : ℕ). mul (sum j w) (power (j * n))) (P .long) ∙ sym (s j l)) (P .sums j l)
+        ∙ xor-self (getD t j 0);
+    }
+
+-- two bytes at the end, as `parity_from_sums` gives them
+pub parity-from-sums : (w p : List ℕ) → Bytes w → WithSums (sum 0 w ∷ mul (sum 1 w) (power 2) ∷ []) p → Parity 2 p (w ++ p)
+parity-from-sums w p h = parity-behind w (sum 0 w ∷ mul (sum 1 w) (power 2) ∷ []) p h moved
+  where
+    moved : (j : ℕ) → j < 2 → getD (sum 0 w ∷ mul (sum 1 w) (power 2) ∷ []) j 0 ≡ mul (sum j w) (power (j * 2))
+    moved zero l = sym (times-0 (sum 0 w))
+    moved (suc zero) l = refl
+    moved (suc (suc j)) l = absurd (omega arith)
 
 -- anywhere: what is to be added to the bytes p has, moved up by what comes after it, the sums of the word
 pub parity-added : (J : ℕ) (a p q b : List ℕ) → Bytes p → Bytes q → length p ≡ length q
@@ -98,41 +122,44 @@ bytes-tabulated f i zero h = bytes-nil
 bytes-tabulated f i (suc n) h = bytes-cons (f i) (tabulated f (suc i) n) (h i) (bytes-tabulated f (suc i) n h)
 
 module _ (fs : List Form) (s : T (solves fs)) (a b : List ℕ) (ha : Bytes a) (hb : Bytes b) where
-  abbrev J : ℕ
-  J = length fs
-
   -- the word with zeros where the parity is to stand
   abbrev blank : List ℕ
-  blank = a ++ (replicate J 0 ++ b)
+  blank = a ++ (replicate (length fs) 0 ++ b)
 
+  -- its sums, moved down by what comes after the parity
   abbrev target : ℕ → ℕ
   target j = mul (sum j blank) (power (254 * (j * length b)))
 
   abbrev filled : List ℕ
-  filled = map (value (tabulated target 0 J)) fs
+  filled = map (value (tabulated target 0 (length fs))) fs
 
   blank-lt : (j : ℕ) → sum j blank < 256
-  blank-lt j = sum-lt j blank (bytes-append a (replicate J 0 ++ b) ha (bytes-append (replicate J 0) b (bytes-replicate J 0 (omega arith)) hb))
+  blank-lt j =
+      sum-lt j blank
+        (bytes-append a (replicate (length fs) 0 ++ b) ha (bytes-append (replicate (length fs) 0) b (bytes-replicate (length fs) 0 (omega arith)) hb))
 
-  target-bytes : Bytes (tabulated target 0 J)
-  target-bytes = bytes-tabulated target 0 J (λ j. mul-lt (sum j blank) (254 * (j * length b)) (blank-lt j))
+  filled-sums : WithSums (tabulated target 0 (length fs)) filled
+  filled-sums =
+      solved fs (tabulated target 0 (length fs)) s
+        (bytes-tabulated target 0 (length fs) (λ j. mul-lt (sum j blank) (254 * (j * length b)) (blank-lt j)))
+        (length-tabulated target 0 (length fs))
 
-  filled-sums : (j : ℕ) → j < J → mul (sum j filled) (power (j * length b)) ≡ sum j blank
-  filled-sums j h =
-      ap (λ (x : ℕ). mul x (power (j * length b)))
-        (solved fs (tabulated target 0 J) s target-bytes (length-tabulated target 0 J) j h ∙ tabulated-at target J j h)
-      ∙ power-back (sum j blank) (254 * (j * length b)) (j * length b) (blank-lt j) (omega arith)
-
-  parity-exists : (p : List ℕ) × Parity J p (a ++ (p ++ b))
+  parity-exists : (p : List ℕ) × Parity (length fs) p (a ++ (p ++ b))
   parity-exists =
+      let t : List ℕ = tabulated target 0 (length fs) in
+      let n : length t ≡ length fs = length-tabulated target 0 (length fs) in
+      let l : length filled ≡ length fs = filled-sums .long ∙ n in
       (filled,
        record {
-         long = length-map fs (value (tabulated target 0 J));
-         bytes = bytes-values fs (tabulated target 0 J) s target-bytes;
+         long = l;
+         bytes = filled-sums .bytes;
          code =
-           subst (λ (l : List ℕ). Codeword J (a ++ (l ++ b))) (added-zeros J filled (length-map fs (value (tabulated target 0 J))))
-             (parity-added J a (replicate J 0) filled b (bytes-replicate J 0 (omega arith)) (bytes-values fs (tabulated target 0 J) s target-bytes)
-               (length-replicate {A = ℕ} J 0 ∙ sym (length-map fs (value (tabulated target 0 J)))) filled-sums);
+           subst (λ (p : List ℕ). Codeword (length fs) (a ++ (p ++ b))) (added-zeros (length fs) filled l)
+             (parity-added (length fs) a (replicate (length fs) 0) filled b (bytes-replicate (length fs) 0 (omega arith)) (filled-sums .bytes)
+               (length-replicate {A = ℕ} (length fs) 0 ∙ sym l)
+               (λ j h.
+               ap (λ (x : ℕ). mul x (power (j * length b))) (filled-sums .sums j (omega arith) ∙ tabulated-at target (length fs) j h)
+               ∙ power-back (sum j blank) (254 * (j * length b)) (j * length b) (blank-lt j) (omega arith)));
        })
 
 -- two bytes in a row, and four, between any a and b

@@ -11,10 +11,10 @@ use lib.ListN.{length, getD, set, take, length-append, length-set}
 use lib.Seq.{take-suc, take-all}
 use Rattle.outcome.specs.Bytes.{Bytes, bytes-nil, bytes-cons, bytes-take}
 use Rattle.xor.specs.Laws.{xor-assoc, xor-swap, xor-right-comm}
-use Rattle.field.specs.Field.{timesAlpha, power, mul}
+use Rattle.field.specs.Field.{power, mul}
 use Rattle.field.specs.Linear.{mul-xor, mul-zero-l, mul-one-r}
 use Rattle.field.specs.Powers.{power-zero}
-use Rattle.field.specs.Laws.{mul-lt, mul-power-suc, mul-power-add}
+use Rattle.field.specs.Laws.{mul-lt, mul-power-add}
 use Rattle.codeword.specs.Code.{sum}
 
 -- ---- times a power
@@ -25,15 +25,6 @@ times-0 x = ap (mul x) power-zero ∙ mul-one-r x
 -- in the first sum each byte counts once
 pub times-none : (x m : ℕ) → mul x (power (0 * m)) ≡ x
 times-none x m = ap (λ (n : ℕ). mul x (power n)) (zero-mul m) ∙ times-0 x
-
-pub times-1 : (x : ℕ) → x < 256 → mul x (power 1) ≡ timesAlpha x
-times-1 x h = mul-power-suc x 0 h ∙ ap timesAlpha (times-0 x)
-
-pub times-2 : (x : ℕ) → x < 256 → mul x (power 2) ≡ timesAlpha (timesAlpha x)
-times-2 x h = mul-power-suc x 1 h ∙ ap timesAlpha (times-1 x h)
-
-pub times-3 : (x : ℕ) → x < 256 → mul x (power 3) ≡ timesAlpha (timesAlpha (timesAlpha x))
-times-3 x h = mul-power-suc x 2 h ∙ ap timesAlpha (times-2 x h)
 
 -- ---- a sum is a byte
 
@@ -66,13 +57,12 @@ unfolding sum
 sum-none j w = refl
 
 -- a step of a loop that makes sum j: t is the sum so far times α^j
-pub sum-step : (j : ℕ) (w : List ℕ) (i : ℕ) {s t : ℕ} → Bytes w → i < length w → s ≡ sum j (take i w) → (s < 256 → t ≡ mul s (power j))
+pub sum-step : (j : ℕ) (w : List ℕ) (i : ℕ) {s t : ℕ} → Bytes w → i < length w → s ≡ sum j (take i w) → t ≡ mul s (power j)
     → bitXor t (getD w i 0) ≡ sum j (take (i + 1) w)
 sum-step j w i h l p q =
-    let ht : Bytes (take i w) = bytes-take i w h in
-    ap (λ (x : ℕ). bitXor x (getD w i 0)) (q (omega (arith, sum-lt j (take i w) ht)) ∙ ap (λ (x : ℕ). mul x (power j)) p)
+    ap (λ (x : ℕ). bitXor x (getD w i 0)) (q ∙ ap (λ (x : ℕ). mul x (power j)) p)
     ∙ ap₂ (λ (n b : ℕ). bitXor (mul (sum j (take i w)) (power n)) b) (sym (mul-one j)) (sym (sum-one j (getD w i 0)))
-    ∙ sym (sum-append j (take i w) (getD w i 0 ∷ []) ht)
+    ∙ sym (sum-append j (take i w) (getD w i 0 ∷ []) (bytes-take i w h))
     ∙ ap (sum j) (sym (take-suc w i 0 l))
     ∙ ap (λ (n : ℕ). sum j (take n w)) (sym (add-one i))
 

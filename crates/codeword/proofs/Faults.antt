@@ -1,0 +1,74 @@
+-- The fault by the sums: one law for each way out of a function that finds it.
+-- Assumes nothing.
+use mathlib.Core.Path.{_≡_, refl, sym, ap, _∙_}
+use mathlib.Core.Bool.{Bool, true, false}
+use mathlib.Core.List.{List, [], _∷_}
+use Prim.Native.Nat.{ℕ, zero, suc, _-_, _≤_, _<_}
+use native.Mathlib.Omega.{arith}
+use borrow.Author.Tests.{lt-ltb, le-ltb}
+use lib.Dec.{eqb, eqb→eq, ltb}
+use lib.ListN.{length, getD}
+use Rattle.outcome.specs.First.{firstBelow}
+use Rattle.outcome.specs.Table.{allBelow, below, of-true}
+use Rattle.codeword.specs.Code.{sums}
+use Rattle.codeword.specs.Nearest.{verdict}
+use Rattle.codeword.specs.Fault.{allZero, fits, fault, cure}
+use Rattle.codeword.specs.FaultLaws.{verdict-by-sums}
+use Rattle.codeword.specs.declared.Fault.{Fault}
+use Rattle.codeword.specs.declared.Fault.the-variants.{Clean, At, Lost}
+use Rattle.codeword.specs.declared.Verdict.{Verdict}
+
+-- an array of four as the list of its elements
+pub four-listed : (s : List ℕ) → length s ≡ 4 → s ≡ getD s 0 0 ∷ getD s 1 0 ∷ getD s 2 0 ∷ getD s 3 0 ∷ []
+four-listed [] e = absurd (omega arith)
+four-listed (a ∷ []) e = absurd (omega arith)
+four-listed (a ∷ b ∷ []) e = absurd (omega arith)
+four-listed (a ∷ b ∷ c ∷ []) e = absurd (omega arith)
+four-listed (a ∷ b ∷ c ∷ d ∷ []) e = refl
+four-listed (a ∷ b ∷ c ∷ d ∷ x ∷ s) e = absurd (omega arith)
+
+-- ---- are all sums 0?
+
+module _ (s : List ℕ) where
+  pub not-zero : (j : ℕ) → j < length s → (getD s j 0 ≡ 0 → ⊥) → allZero s ≡ false
+  unfolding allZero
+  not-zero j h n = go (allBelow (λ j. eqb (getD s j 0) 0) (length s)) refl
+    where
+      go : (b : Bool) → allBelow (λ j. eqb (getD s j 0) 0) (length s) ≡ b → b ≡ false
+      go true e = absurd (n (eqb→eq (getD s j 0) 0 (below (λ j. eqb (getD s j 0) 0) (length s) (of-true (allBelow (λ j. eqb (getD s j 0) 0) (length s)) e) j h)))
+      go false e = refl
+
+pub zero-two : (s0 s1 : ℕ) → s0 ≡ 0 → s1 ≡ 0 → allZero (s0 ∷ s1 ∷ []) ≡ true
+unfolding allZero
+zero-two s0 s1 p q = rw (p, q)
+
+pub zero-four : (s0 s1 s2 s3 : ℕ) → s0 ≡ 0 → s1 ≡ 0 → s2 ≡ 0 → s3 ≡ 0 → allZero (s0 ∷ s1 ∷ s2 ∷ s3 ∷ []) ≡ true
+unfolding allZero
+zero-four s0 s1 s2 s3 p q r t = rw (p, q, r, t)
+
+-- ---- the ways out
+
+module _ (s : List ℕ) (k : ℕ) where
+  pub fault-long : 255 < k → Lost ≡ fault s k
+  unfolding fault
+  fault-long h = rw (lt-ltb 255 k h)
+
+  module _ (h : k ≤ 255) where
+    pub fault-none : allZero s ≡ true → Clean ≡ fault s k
+    unfolding fault
+    fault-none z = rw (le-ltb 255 k h, z)
+
+    pub fault-here : allZero s ≡ false → {m : ℕ} → m ≡ firstBelow (fits s) k → m < k → At (k - 1 - m) (getD s 0 0) ≡ fault s k
+    unfolding fault
+    fault-here z e l = rw (le-ltb 255 k h, z, ← e, lt-ltb _ k l)
+
+    pub fault-nowhere : allZero s ≡ false → {m : ℕ} → m ≡ firstBelow (fits s) k → k ≤ m → Lost ≡ fault s k
+    unfolding fault
+    fault-nowhere z e l = rw (le-ltb 255 k h, z, ← e, le-ltb _ k l)
+
+-- ---- from the sums of a word to the verdict on it
+
+pub verdict-found : (J : ℕ) (w : List ℕ) {s : List ℕ} {f : Fault} {v : Verdict} → 0 < J → s ≡ sums J w → f ≡ fault s (length w)
+    → v ≡ cure w f → v ≡ verdict J w
+verdict-found J w h p q r =
+    r ∙ ap (cure w) (q ∙ ap (λ (s : List ℕ). fault s (length w)) p) ∙ sym (verdict-by-sums J w h)

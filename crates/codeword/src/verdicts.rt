@@ -1,0 +1,125 @@
+// The verdict on a word: its sums say whether one wrong byte explains them, and where it would stand.
+ghost use mathlib.Core.Path.{_≡_};
+ghost use mathlib.Core.List.{[], _∷_};
+ghost use Prim.Native.Nat.{ℕ, _<_};
+ghost use lib.ListN.{length};
+ghost use Rattle.outcome.specs.First.{firstBelow};
+ghost use Rattle.codeword.specs.Nearest.{verdict};
+ghost use Rattle.codeword.specs.Fault.{fits, fault, cure};
+use crate::sums::{four_sums, two_sums, ALPHA, ALPHA_2, ALPHA_3};
+use crate::{Fault, Verdict};
+use field::product;
+
+// How many bytes come after the one that is wrong: the first m below k with s1 = s0 α^m, or k.
+fn after_of_two(s0: u8, s1: u8, k: usize) -> usize
+    ensures { λ r. ⌜ r ≡ firstBelow (fits (s0 ∷ s1 ∷ [])) k ⌝ }
+{
+    let mut t1 = s0;
+    let mut m: usize = 0;
+    while m < k {
+        if t1 == s1 {
+            return m;
+        }
+        t1 = product(t1, ALPHA);
+        m += 1;
+    }
+    m
+}
+
+// The same by four sums: s1 = s0 α^m, s2 = s0 α^2m and s3 = s0 α^3m.
+fn after_of_four(s0: u8, s1: u8, s2: u8, s3: u8, k: usize) -> usize
+    ensures { λ r. ⌜ r ≡ firstBelow (fits (s0 ∷ s1 ∷ s2 ∷ s3 ∷ [])) k ⌝ }
+{
+    let mut t1 = s0;
+    let mut t2 = s0;
+    let mut t3 = s0;
+    let mut m: usize = 0;
+    while m < k {
+        if t1 == s1 {
+            if t2 == s2 {
+                if t3 == s3 {
+                    return m;
+                }
+            }
+        }
+        t1 = product(t1, ALPHA);
+        t2 = product(t2, ALPHA_2);
+        t3 = product(t3, ALPHA_3);
+        m += 1;
+    }
+    m
+}
+
+// The fault of a word of k bytes with these first sums.
+pub fn fault_of_two(s0: u8, s1: u8, k: usize) -> Fault
+    ensures { λ r. ⌜ r ≡ fault (s0 ∷ s1 ∷ []) k ⌝ }
+{
+    if 255 < k {
+        return Fault::Lost;
+    }
+    if s0 == 0 {
+        if s1 == 0 {
+            return Fault::Clean;
+        }
+    }
+    let m = after_of_two(s0, s1, k);
+    if m < k {
+        Fault::At(k - 1 - m, s0)
+    } else {
+        Fault::Lost
+    }
+}
+
+pub fn fault_of_four(s: [u8; 4], k: usize) -> Fault
+    ensures { λ r. ⌜ r ≡ fault s k ⌝ }
+{
+    let s0 = s[0];
+    let s1 = s[1];
+    let s2 = s[2];
+    let s3 = s[3];
+    if 255 < k {
+        return Fault::Lost;
+    }
+    if s0 == 0 {
+        if s1 == 0 {
+            if s2 == 0 {
+                if s3 == 0 {
+                    return Fault::Clean;
+                }
+            }
+        }
+    }
+    let m = after_of_four(s0, s1, s2, s3, k);
+    if m < k {
+        Fault::At(k - 1 - m, s0)
+    } else {
+        Fault::Lost
+    }
+}
+
+// What to do with a word that has this fault.
+fn cured(w: &[u8], f: Fault) -> Verdict
+    requires { ⌜ ((i e : ℕ) → f ≡ Fault.At i e → i < length (now w)) ⌝ }
+    ensures { λ r. ⌜ r ≡ cure (now (w .entry)) f ⌝ }
+{
+    match f {
+        Fault::Clean => Verdict::Clean,
+        Fault::At(i, e) => Verdict::Change(i, w[i] ^ e),
+        Fault::Lost => Verdict::Lost,
+    }
+}
+
+// What to do with a word of P or Q.
+pub fn verdict_of_two(w: &[u8]) -> Verdict
+    ensures { λ r. ⌜ r ≡ verdict 2 (now (w .entry)) ⌝ }
+{
+    let s = two_sums(w);
+    cured(w, fault_of_two(s.0, s.1, w.len()))
+}
+
+// What to do with a word of C1 or C2.
+pub fn verdict_of_four(w: &[u8]) -> Verdict
+    ensures { λ r. ⌜ r ≡ verdict 4 (now (w .entry)) ⌝ }
+{
+    cured(w, fault_of_four(four_sums(w), w.len()))
+}
