@@ -34,7 +34,7 @@ pub joined : (a b out out₁ out₂ : List ℕ) → length a + length b ≡ leng
     → out₁ ≡ take 0 out ++ (a ++ drop (0 + length a) out) → out₂ ≡ take (length a) out₁ ++ (b ++ drop (length a + length b) out₁) → out₂ ≡ a ++ b
 joined a b out out₁ out₂ h e f =
     let long : length out₁ ≡ length out =
-          ap length e ∙ length-append a (drop (0 + length a) out) ∙ omega (arith, length-drop (0 + length a) out) in
+    ap length e ∙ length-append a (drop (0 + length a) out) ∙ omega (arith, length-drop (0 + length a) out) in
     f
     ∙ ap (λ (t : List ℕ). take (length a) out₁ ++ (b ++ t)) (drop-of-length-le out₁ {i = length a + length b} (omega arith))
     ∙ ap (λ (t : List ℕ). take (length a) out₁ ++ t) (append-nil b)

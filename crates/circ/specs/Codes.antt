@@ -81,16 +81,25 @@ bytes-parity : (a b : List ℕ) → Bytes (parityBetween a b)
 unfolding parityBetween
 bytes-parity a b = parity a b .1 .bytes
 
+-- the Q bytes and the P bytes are the parity of their words
+pub q-parity : (w : List ℕ) → Bytes w → Parity 4 (qOf w) (withQ qOf w)
+unfolding qOf withQ
+q-parity w h = parity-right (take 12 w) (drop 16 w) (bytes-take 12 w h) (bytes-drop 16 w h)
+
+pub p-parity : (w : List ℕ) → Bytes w → Parity 4 (pOf w) (withP pOf w)
+unfolding pOf withP
+p-parity w h = subst (λ (t : List ℕ). Parity 4 (parityBetween w []) (w ++ t)) (append-nil (parityBetween w [])) (parity-right w [] h bytes-nil)
+
 pub circ-coding : Coding (Codeword 4) qOf pOf
-unfolding qOf pOf withQ withP
+unfolding qOf pOf
 circ-coding =
     record {
       four-q = λ w. four-bytes (take 12 w) (drop 16 w);
       four-p = λ w. four-bytes w [];
       bytes-q = λ w h. bytes-parity (take 12 w) (drop 16 w);
       bytes-p = λ w h. bytes-parity w [];
-      code-q = λ w e h. parity-right (take 12 w) (drop 16 w) (bytes-take 12 w h) (bytes-drop 16 w h) .code;
-      code-p = λ w e h. subst (λ (t : List ℕ). Codeword 4 (w ++ t)) (append-nil (parityBetween w [])) (parity-right w [] h bytes-nil .code);
+      code-q = λ w e h. q-parity w h .code;
+      code-p = λ w e h. p-parity w h .code;
     }
 
 -- a codeword is near itself

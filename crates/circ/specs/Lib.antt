@@ -8,3 +8,9 @@ pub mod Writing
 pub mod ThereAndBack
 pub mod Codes
 pub mod Answers
+pub mod Steps
+pub mod Reading
+pub mod Laws
+pub mod Fresh
+pub mod Figures
+pub mod Damage

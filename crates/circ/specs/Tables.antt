@@ -12,7 +12,7 @@ use lib.ListN.{length, take, drop, getD, replicate}
 use lib.Seq.{drop-cons, take-all}
 use Rattle.outcome.specs.Bytes.{Bytes, bytes-append, bytes-replicate}
 use Rattle.outcome.specs.Table.{below, and-left, and-right}
-use Rattle.xor.specs.Lists.{length-added, added-twice}
+use Rattle.xor.specs.Lists.{length-added, added-twice, bytes-added}
 use Rattle.circ.specs.Rows.{picked, firstTwelve, lastTwelve, placed, rowsOfBytes, collected, beforeC2, between, afterC1, readerBeforeC1, readerBetween, readerAfterC2, mask, inverted}
 
 -- ---- what the waits of a row add up to in writer and reader
@@ -108,9 +108,10 @@ mask-data b h = eqb→eq (getD mask (getD rowsOfBytes b 0) 0) 0 (below (λ b. eq
 
 pub mask-parity : (i : ℕ) → i < 4 → (getD mask (12 + i) 0 ≡ 255) × (getD mask (28 + i) 0 ≡ 255)
 unfolding mask
-mask-parity i h =
-    (eqb→eq (getD mask (12 + i) 0) 255 (below (λ i. eqb (getD mask (12 + i) 0) 255) 4 tt i h),
-    eqb→eq (getD mask (28 + i) 0) 255 (below (λ i. eqb (getD mask (28 + i) 0) 255) 4 tt i h))
+mask-parity i h = (
+  eqb→eq (getD mask (12 + i) 0) 255 (below (λ i. eqb (getD mask (12 + i) 0) 255) 4 tt i h),
+  eqb→eq (getD mask (28 + i) 0) 255 (below (λ i. eqb (getD mask (28 + i) 0) 255) 4 tt i h),
+)
 
 pub length-inverted : (w : List ℕ) → length w ≡ 32 → length (inverted w) ≡ 32
 unfolding inverted mask
@@ -119,3 +120,11 @@ length-inverted w e = length-added w mask e ∙ e
 pub inverted-twice : (w : List ℕ) → length w ≡ 32 → inverted (inverted w) ≡ w
 unfolding inverted mask
 inverted-twice w e = added-twice w mask (omega arith)
+
+pub bytes-inverted : (w : List ℕ) → Bytes w → Bytes (inverted w)
+unfolding inverted mask
+bytes-inverted w h =
+    bytes-added w mask h
+    (bytes-append (replicate 12 0) (replicate 4 255 ++ (replicate 12 0 ++ replicate 4 255)) (bytes-replicate 12 0 (omega arith))
+    (bytes-append (replicate 4 255) (replicate 12 0 ++ replicate 4 255) (bytes-replicate 4 255 (omega arith))
+    (bytes-append (replicate 12 0) (replicate 4 255) (bytes-replicate 12 0 (omega arith)) (bytes-replicate 4 255 (omega arith)))))

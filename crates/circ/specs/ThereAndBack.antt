@@ -28,8 +28,21 @@ module _ {C : List ℕ → Type 0} {q p fix₁ fix₂ : List ℕ → List ℕ} {
   abbrev C2 : ℕ → List ℕ
   C2 n = c2Word q p f n
 
+  -- the C1 words, one step later
+  abbrev late : ℕ → List ℕ
+  late n = back (replicate 32 0) C1 1 n
+
+  pub length-late : (n : ℕ) → length (late n) ≡ 32
+  length-late n = back-all (λ t. length t ≡ 32) (replicate 32 0) C1 1 n (length-replicate {A = ℕ} 32 0) (length-c1 code f)
+
+  pub bytes-late : (n : ℕ) → Bytes (late n)
+  bytes-late n = back-all (λ w. Bytes w) (replicate 32 0) C1 1 n (bytes-replicate 32 0 (omega arith)) (bytes-c1 code f fb)
+
+  pub code-late : (n : ℕ) → C (late n)
+  code-late n = back-all C (replicate 32 0) C1 1 n (fix .zeros 32) (c1-codeword code f fb)
+
   -- g are frames whose C1 words, one step later, are put right to those that were written
-  module _ (g : ℕ → List ℕ) (right : (n : ℕ) → fix₁ (metC1 g n) ≡ back (replicate 32 0) C1 1 n) where
+  module _ (g : ℕ → List ℕ) (right : (n : ℕ) → fix₁ (metC1 g n) ≡ late n) where
     abbrev V₁ : ℕ → List ℕ
     V₁ n = throughC1 fix₁ (metC1 g n)
 
@@ -43,12 +56,9 @@ module _ {C : List ℕ → Type 0} {q p fix₁ fix₂ : List ℕ → List ℕ} {
     U₃ n = outAt readerAfterC2 (λ m. V₂ m) n
 
     -- after C1
-    length-right : (n : ℕ) → length (back (replicate 32 0) C1 1 n) ≡ 32
-    length-right n = back-all (λ t. length t ≡ 32) (replicate 32 0) C1 1 n (length-replicate {A = ℕ} 32 0) (length-c1 code f)
-
     length-V₁ : (n : ℕ) → length (V₁ n) ≡ 28
     unfolding throughC1
-    length-V₁ n = length-take-le 28 (fix₁ (metC1 g n)) (omega (arith, ap length (right n), length-right n))
+    length-V₁ n = length-take-le 28 (fix₁ (metC1 g n)) (omega (arith, ap length (right n), length-late n))
 
     row-V₁ : (r n : ℕ) → r < 28 → getD (V₁ n) r 0 ≡ back 0 (λ m. getD (C1 m) r 0) 1 n
     unfolding throughC1
@@ -143,20 +153,18 @@ module _ {C : List ℕ → Type 0} {q p fix₁ fix₂ : List ℕ → List ℕ} {
   abbrev W : ℕ → List ℕ
   W n = written q p f n
 
-  met : (n : ℕ) → metC1 W n ≡ back (replicate 32 0) C1 1 n
+  -- the C1 words come in as they were written
+  pub met : (n : ℕ) → metC1 W n ≡ late n
   unfolding metC1 readerBeforeC1 afterC1
   met n =
       out-same readerBeforeC1 (λ m. inverted (W m)) (λ m. rowsWritten q p f m) n
       (λ m. ap inverted (written-is q p f m) ∙ inverted-twice (rowsWritten q p f m) (length-rows-written code f m))
       ∙ series afterC1 readerBeforeC1 C1 32 1 n (omega arith) (omega arith) (length-c1 code f) around-c1
 
-  kept : (n : ℕ) → fix₁ (metC1 W n) ≡ back (replicate 32 0) C1 1 n
+  kept : (n : ℕ) → fix₁ (metC1 W n) ≡ late n
   kept n =
       ap fix₁ (met n)
-      ∙ fix .keeps₁ (back (replicate 32 0) C1 1 n)
-      (back-all (λ t. length t ≡ 32) (replicate 32 0) C1 1 n (length-replicate {A = ℕ} 32 0) (length-c1 code f))
-      (back-all (λ w. Bytes w) (replicate 32 0) C1 1 n (bytes-replicate 32 0 (omega arith)) (bytes-c1 code f fb))
-      (back-all C (replicate 32 0) C1 1 n (fix .zeros 32) (c1-codeword code f fb))
+      ∙ fix .keeps₁ (late n) (length-late n) (bytes-late n) (code-late n)
 
   pub there-and-back : (n : ℕ) → readerOut fix₁ fix₂ mark (readerAt fix₁ fix₂ mark W n) (W n) ≡ back (replicate 24 0) f 111 n
   there-and-back n = mended-back W kept n

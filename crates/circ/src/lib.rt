@@ -6,6 +6,7 @@ ghost use lib.ListN.{length, take, drop};
 ghost use Rattle.lines.specs.Delay.{rowsOut};
 ghost use Rattle.lines.specs.Parts.{part, sectioned};
 ghost use Rattle.circ.specs.Rows.{inverted};
+
 mod reader;
 mod writer;
 
@@ -45,7 +46,38 @@ pub struct ReaderStep {
 
 // (FF) in the parity rows.
 const MASK: [u8; 32] = [
-    0, 0, 0, 0, 0, 0, 0, 0, 0, 0, 0, 0, 255, 255, 255, 255, 0, 0, 0, 0, 0, 0, 0, 0, 0, 0, 0, 0, 255, 255, 255, 255,
+    0,
+    0,
+    0,
+    0,
+    0,
+    0,
+    0,
+    0,
+    0,
+    0,
+    0,
+    0,
+    255,
+    255,
+    255,
+    255,
+    0,
+    0,
+    0,
+    0,
+    0,
+    0,
+    0,
+    0,
+    0,
+    0,
+    0,
+    0,
+    255,
+    255,
+    255,
+    255,
 ];
 
 // The bytes of `what` stand in `to` from a place on.

@@ -120,13 +120,13 @@ module _ {lens line₀ word₀ line word : List ℕ} {at carry k d : ℕ} (g : G
         line-len = g .line-len;
         word-len = g .word-len;
         out =
-          out-more
-          ∙ ap (λ (n : ℕ). take k word ++ (lineOut (take n s) x ∷ rowsOut (drop (k + 1) lens) (drop n s) (drop (k + 1) word))) z
-          ∙ sym (append-snoc (take k word) x (rowsOut (drop (k + 1) lens) s (drop (k + 1) word)))
-          ∙ ap (λ (t : List ℕ). t ++ rowsOut (drop (k + 1) lens) s (drop (k + 1) word)) (sym (take-suc word k 0 in-word) ∙ ap (λ (n : ℕ). take n word) (sym (add-one k)));
+            out-more
+            ∙ ap (λ (n : ℕ). take k word ++ (lineOut (take n s) x ∷ rowsOut (drop (k + 1) lens) (drop n s) (drop (k + 1) word))) z
+            ∙ sym (append-snoc (take k word) x (rowsOut (drop (k + 1) lens) s (drop (k + 1) word)))
+            ∙ ap (λ (t : List ℕ). t ++ rowsOut (drop (k + 1) lens) s (drop (k + 1) word)) (sym (take-suc word k 0 in-word) ∙ ap (λ (n : ℕ). take n word) (sym (add-one k)));
         next =
-          next-more
-          ∙ ap (λ (n : ℕ). take at line ++ (carry ∷ (lineNext (take n s) x ++ rowsNext (drop (k + 1) lens) (drop n s) (drop (k + 1) word)))) z;
+            next-more
+            ∙ ap (λ (n : ℕ). take at line ++ (carry ∷ (lineNext (take n s) x ++ rowsNext (drop (k + 1) lens) (drop n s) (drop (k + 1) word)))) z;
       }
 
   -- a row that waits: its oldest byte comes out, and what went in is the carry
@@ -190,16 +190,16 @@ module _ {lens line₀ word₀ line word : List ℕ} {at carry k d : ℕ} (g : G
           line-len = length-set line at carry ∙ g .line-len;
           word-len = length-set word k y ∙ g .word-len;
           out =
-            out-more
-            ∙ ap (λ (b : ℕ). take k word ++ (b ∷ left-out)) (ap (λ (t : List ℕ). lineOut t x) taken ∙ line-out e x y tail)
-            ∙ sym (append-snoc (take k word) y left-out)
-            ∙ rw (after, same, behind);
+              out-more
+              ∙ ap (λ (b : ℕ). take k word ++ (b ∷ left-out)) (ap (λ (t : List ℕ). lineOut t x) taken ∙ line-out e x y tail)
+              ∙ sym (append-snoc (take k word) y left-out)
+              ∙ rw (after, same, behind);
           next =
-            next-more
-            ∙ ap (λ (t : List ℕ). take at line ++ (carry ∷ (t ++ left-next))) (ap (λ (t : List ℕ). lineNext t x) taken ∙ line-next e x y tail)
-            ∙ ap (λ (t : List ℕ). take at line ++ (carry ∷ t)) (append-assoc (take e tail) (x ∷ []) left-next)
-            ∙ sym (append-assoc (take at line) (carry ∷ take e tail) (x ∷ left-next))
-            ∙ rw (same, behind, front);
+              next-more
+              ∙ ap (λ (t : List ℕ). take at line ++ (carry ∷ (t ++ left-next))) (ap (λ (t : List ℕ). lineNext t x) taken ∙ line-next e x y tail)
+              ∙ ap (λ (t : List ℕ). take at line ++ (carry ∷ t)) (append-assoc (take e tail) (x ∷ []) left-next)
+              ∙ sym (append-assoc (take at line) (carry ∷ take e tail) (x ∷ left-next))
+              ∙ rw (same, behind, front);
         }
 
 -- ---- the end
@@ -208,15 +208,16 @@ module _ {lens line₀ word₀ line word : List ℕ} {at carry k d : ℕ} (g : G
 pub done-length : {lens line₀ word₀ line word : List ℕ} {at carry k : ℕ} → Going lens line₀ word₀ line word at carry k
     → (part : List ℕ) → part ≡ lineNext (take at line) carry → length (part ++ drop at line) ≡ length line₀
 done-length {line = line} {at = at} {carry = carry} g part e =
-    omega
-    (arith,
-    length-append part (drop at line),
-    ap length e,
-    length-next (take at line) carry,
-    length-take-le at line (omega (arith, g .inside, g .line-len)),
-    length-drop at line,
-    g .inside,
-    g .line-len)
+    omega (
+      arith,
+      length-append part (drop at line),
+      ap length e,
+      length-next (take at line) carry,
+      length-take-le at line (omega (arith, g .inside, g .line-len)),
+      length-drop at line,
+      g .inside,
+      g .line-len,
+    )
 
 none-out : (ds s w : List ℕ) → (ds ≡ []) ⊎ (w ≡ []) → rowsOut ds s w ≡ w
 unfolding rowsOut

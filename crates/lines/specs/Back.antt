@@ -1,8 +1,8 @@
 -- Laws of a stream that comes d steps later.
 -- Assumes nothing.
 use mathlib.Core.Path.{_≡_, refl, sym, ap, _∙_}
-use Prim.Native.Nat.{ℕ, zero, suc, _+_}
-use native.Mathlib.Nat.{add-zero, add-suc, zero-add, suc-add}
+use Prim.Native.Nat.{ℕ, zero, suc, _+_, _<_}
+use native.Mathlib.Nat.{add-zero, add-suc, zero-add, suc-add, not-suc-le-zero, le-of-suc-le-suc}
 use Rattle.lines.specs.Stream.{back}
 
 -- equal streams come late alike
@@ -42,3 +42,10 @@ pub back-later : {A : Type 0} (z : A) (x : ℕ → A) (d n : ℕ) → back z x d
 unfolding back
 back-later z x zero n = ap x (zero-add n)
 back-later z x (suc d) n = ap (back z x (suc d)) (suc-add d n) ∙ back-later z x d n
+
+-- before that it is z
+pub back-before : {A : Type 0} (z : A) (x : ℕ → A) (d n : ℕ) → n < d → back z x d n ≡ z
+unfolding back
+back-before z x zero n h = absurd (not-suc-le-zero h)
+back-before z x (suc d) zero h = refl
+back-before z x (suc d) (suc n) h = back-before z x d n (le-of-suc-le-suc h)

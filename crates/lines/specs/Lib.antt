@@ -7,3 +7,4 @@ pub mod Series
 pub mod Chain
 pub mod Chained
 pub mod Parts
+pub mod Zeros

@@ -56,9 +56,10 @@ length-rows-next [] s w h = refl
 length-rows-next (d ∷ ds) s [] h = refl
 length-rows-next (d ∷ ds) s (x ∷ w) h =
     length-append (lineNext (take d s) x) (rowsNext ds (drop d s) w)
-    ∙ omega
-    (arith,
-    length-next (take d s) x,
-    length-take-le d s (omega arith),
-    length-drop d s,
-    length-rows-next ds (drop d s) w (omega (arith, length-drop d s)))
+    ∙ omega (
+      arith,
+      length-next (take d s) x,
+      length-take-le d s (omega arith),
+      length-drop d s,
+      length-rows-next ds (drop d s) w (omega (arith, length-drop d s)),
+    )

@@ -92,7 +92,7 @@ module _ (d₁ d₂ d₃ : List ℕ) (g₁ g₂ g₃ : List ℕ → List ℕ) (n
   is₃ : w₅ ≡ word₃ d₁ d₂ d₃ g₁ g₂ g₃ s x
   is₃ = e₅ ∙ ap g₃ (e₄ ∙ ap₂ (rowsOut d₂) p₂ is₂)
 
-  pub step-out : w₆ ≡ chainOut d₁ d₂ d₃ g₁ g₂ g₃ s x
+  step-out : w₆ ≡ chainOut d₁ d₂ d₃ g₁ g₂ g₃ s x
   unfolding chainOut
   step-out = e₆ ∙ ap₂ (rowsOut d₃) p₃ is₃
 
@@ -125,8 +125,12 @@ module _ (d₁ d₂ d₃ : List ℕ) (g₁ g₂ g₃ : List ℕ → List ℕ) (n
       ∙ ap (λ (t : List ℕ). (l₁ ++ l₂) ++ t) (append-nil l₃)
       ∙ append-assoc l₁ l₂ l₃
 
-  pub step-next : s₃ ≡ chainNext d₁ d₂ d₃ g₁ g₂ g₃ s x
+  step-next : s₃ ≡ chainNext d₁ d₂ d₃ g₁ g₂ g₃ s x
   unfolding chainNext l₁ l₂ l₃
   step-next =
       all
       ∙ ap₂ _++_ (ap₂ (rowsNext d₁) p₁ e₁) (ap₂ _++_ (ap₂ (rowsNext d₂) p₂ is₂) (ap₂ (rowsNext d₃) p₃ is₃))
+
+  -- the store and the word at the end are those of a step of the chain
+  pub chain-step : (s₃ ≡ chainNext d₁ d₂ d₃ g₁ g₂ g₃ s x) × (w₆ ≡ chainOut d₁ d₂ d₃ g₁ g₂ g₃ s x)
+  chain-step = (step-next, step-out)

@@ -33,7 +33,7 @@ returns c =
     let word = start .args .word .now in
     let out = start .args .out .now in
     let same : copy .copy .last .1 .0 ≡ word =
-          chosen (copy .copy .result) (length word) (length out) word out _ (copy .copy .ensures .0) (copy .copy .ensures .1) (omega arith) in
+    chosen (copy .copy .result) (length word) (length out) word out _ (copy .copy .ensures .0) (copy .copy .ensures .1) (omega arith) in
     chosen (add .add .result) (length (copy .copy .last .1 .0)) 32 (added (copy .copy .last .1 .0) mask) _ _ (add .add .ensures .0) (add .add .ensures .1)
     (ap length same ∙ omega arith)
     ∙ ap (λ (t : List ℕ). added t mask) same

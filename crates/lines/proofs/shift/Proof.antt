@@ -45,9 +45,11 @@ loop-again : tie.Need-loop-again Inv-loop μ-loop
 loop-again c =
     let b = c .before .before .loop in
     let l = c .before .before .before .before .args .line .now in
-    let x = c .before .before .before .before .args .x in
-    (b .inv .0, omega arith,
-    filling-more (b .inv .2) _ (omega (arith, length-next l x)) (filling-rest (b .inv .2) (b .i + 1) (omega arith) ∙ sym (next-at l x (b .i) (omega arith))))
+    let x = c .before .before .before .before .args .x in (
+      b .inv .0,
+      omega arith,
+      filling-more (b .inv .2) _ (omega (arith, length-next l x)) (filling-rest (b .inv .2) (b .i + 1) (omega arith) ∙ sym (next-at l x (b .i) (omega arith))),
+    )
 
 slice-write-line-2 : tie.Need-slice-write-line-2 Inv-loop μ-loop
 slice-write-line-2 c = omega (arith, filling-long (c .before .loop .inv .2))
