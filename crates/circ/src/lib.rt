@@ -7,8 +7,13 @@ ghost use Rattle.lines.specs.Delay.{rowsOut};
 ghost use Rattle.lines.specs.Parts.{part, sectioned};
 ghost use Rattle.circ.specs.Rows.{inverted};
 
+mod mask;
 mod reader;
+mod reader_waits;
 mod writer;
+mod writer_waits;
+
+use mask::MASK;
 
 // Of the writer: 24 bytes wait before C2, 1,512 between C2 and C1, 16 after C1.
 pub struct CircWriter {
@@ -43,42 +48,6 @@ pub struct ReaderStep {
     pub next: CircReader,
     pub answer: ReaderAnswer,
 }
-
-// (FF) in the parity rows.
-const MASK: [u8; 32] = [
-    0,
-    0,
-    0,
-    0,
-    0,
-    0,
-    0,
-    0,
-    0,
-    0,
-    0,
-    0,
-    255,
-    255,
-    255,
-    255,
-    0,
-    0,
-    0,
-    0,
-    0,
-    0,
-    0,
-    0,
-    0,
-    0,
-    0,
-    0,
-    255,
-    255,
-    255,
-    255,
-];
 
 // The bytes of `what` stand in `to` from a place on.
 fn put(what: &[u8], to: &mut [u8], from: usize)

@@ -13,75 +13,8 @@ use crate::WriterStep;
 use crate::invert;
 use crate::join;
 use crate::section;
+use crate::writer_waits::{BEFORE_C2, BETWEEN, AFTER_C1};
 
-// How many frames each row waits before C2, between C2 and C1, and after C1.
-const BEFORE_C2: [u8; 12] = [2, 2, 2, 2, 2, 2, 2, 2, 2, 2, 2, 2];
-
-const BETWEEN: [u8; 28] = [
-    0,
-    4,
-    8,
-    12,
-    16,
-    20,
-    24,
-    28,
-    32,
-    36,
-    40,
-    44,
-    48,
-    52,
-    56,
-    60,
-    64,
-    68,
-    72,
-    76,
-    80,
-    84,
-    88,
-    92,
-    96,
-    100,
-    104,
-    108,
-];
-
-const AFTER_C1: [u8; 32] = [
-    1,
-    0,
-    1,
-    0,
-    1,
-    0,
-    1,
-    0,
-    1,
-    0,
-    1,
-    0,
-    1,
-    0,
-    1,
-    0,
-    1,
-    0,
-    1,
-    0,
-    1,
-    0,
-    1,
-    0,
-    1,
-    0,
-    1,
-    0,
-    1,
-    0,
-    1,
-    0,
-];
 
 // The 28 rows of an F1-frame.
 fn place(frame: &[u8]) -> [u8; 28]
