@@ -1,11 +1,11 @@
 -- The doubt mark by the marks in rows 28 and 29.
 -- Assumes nothing.
-use mathlib.Core.Path.{_≡_, sym, ap}
+use mathlib.Core.Path.{_≡_}
 use mathlib.Core.List.{List, [], _∷_}
 use Prim.Native.Nat.{ℕ}
 use borrow.Author.Tests.{eq-eqb, ne-eqb}
 use lib.ListN.{getD}
-use Rattle.outcome.specs.Say.{Say, done}
+use Rattle.outcome.specs.Say.{done}
 use Rattle.circ.specs.Rows.{doubt}
 
 module _ (rows : List ℕ) where

@@ -7,7 +7,7 @@ use Prim.Native.Nat.{ℕ, _<_}
 use native.Mathlib.Omega.{arith}
 use borrow.Author.Tests.{ltb-true}
 use lib.Dec.{ltb}
-use lib.ListN.{length, set}
+use lib.ListN.{length}
 use Rattle.codeword.specs.Nearest.{isCodeword, placeBefore, newByte, bytesAfter, verdict, mended, nearest}
 use Rattle.codeword.specs.declared.Verdict.{Verdict}
 use Rattle.codeword.specs.declared.Verdict.the-variants as verdicts

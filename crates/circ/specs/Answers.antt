@@ -1,9 +1,6 @@
 -- What the writer's and the reader's answers say, in document 01's numbers and values.
 -- Assumes nothing.
-use mathlib.Core.Path.{_≡_, refl}
-use mathlib.Core.List.{List, [], _∷_}
-use Prim.Native.Nat.{ℕ}
-use native.Mathlib.Omega.{arith}
+use mathlib.Core.List.{[], _∷_}
 use Rattle.outcome.specs.Say.{Say, done, refused}
 use Rattle.circ.specs.declared.WriterAnswer as writing
 use Rattle.circ.specs.declared.WriterAnswer.the-variants as written

@@ -1,14 +1,14 @@
 -- The two codes of CIRC (Annex C.7): C2 and C1 are codewords of four sums; reading hands on the codeword near a word, if there is one.
 -- Assumes nothing.
-use mathlib.Core.Path.{_≡_, refl, sym, ap, ap₂, _∙_, subst}
+use mathlib.Core.Path.{_≡_, refl, ap, ap₂, subst}
 use mathlib.Core.List.{List, [], _∷_, _++_, map, append-nil}
 use mathlib.Core.Option.{Option, none, some}
-use Prim.Native.Nat.{ℕ, zero, suc, _%_, _<_, _≤_}
+use Prim.Native.Nat.{ℕ, zero, suc, _%_, _≤_}
 use native.Mathlib.Nat.{mod-eq-of-lt}
 use native.Mathlib.Omega.{arith}
 use lib.ListN.{length, take, drop}
 use Rattle.outcome.specs.Bytes.{Bytes, bytes-take, bytes-drop, bytes-nil}
-use Rattle.codeword.specs.Code.{Codeword, Near}
+use Rattle.codeword.specs.Code.{Codeword}
 use Rattle.codeword.specs.Nearest.{nearest}
 use Rattle.codeword.specs.NearestLaws.{nearest-complete}
 use Rattle.codeword.specs.Changes.{changes-self}

@@ -1,20 +1,19 @@
 -- A fresh writer acts as if endless zero F1-frames had gone before: such a frame leaves it fresh, and makes 24 zeros and eight (FF).
 -- A fresh reader acts as if these F2-frames had: such a frame leaves it fresh, and gives zeros without doubt.
 -- Assumes nothing.
-use mathlib.Core.Path.{_≡_, refl, sym, ap, ap₂, _∙_}
+use mathlib.Core.Path.{_≡_, refl, ap, ap₂}
 use mathlib.Core.List.{List, [], _∷_, _++_}
-use Prim.Native.Nat.{ℕ, zero, suc, _≤_}
+use Prim.Native.Nat.{ℕ}
 use native.Mathlib.Omega.{arith}
-use lib.ListN.{take, drop, replicate}
+use lib.ListN.{take}
 use Rattle.outcome.specs.Bytes.{bytes-replicate, bytes-nil}
 use Rattle.codeword.specs.Distance.{sum-zeros}
-use Rattle.codeword.specs.Parity.{Parity}
 use Rattle.codeword.specs.ParityLaws.{parity-unique}
 use Rattle.lines.specs.Delay.{total}
 use Rattle.lines.specs.Zeros.{zeros, chain-zeros, chain-stays}
 use Rattle.circ.specs.Rows.{placed, collected, doubt, beforeC2, between, afterC1, readerBeforeC1, readerBetween, readerAfterC2, mask, inverted}
 use Rattle.circ.specs.Chains.{withQ, withP, writerOut, writerNext, throughC1, throughC2, readerRows, readerOut, readerDoubt, readerNext}
-use Rattle.circ.specs.Codes.{parityBetween, parity-right, qOf, pOf, corrected, lost, circ-correcting}
+use Rattle.circ.specs.Codes.{parity-right, qOf, pOf, corrected, lost, circ-correcting}
 
 -- ---- zeros are the parity of zeros
 

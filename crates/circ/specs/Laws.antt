@@ -1,22 +1,21 @@
 -- The laws of the CIRC writer and reader with their codes: what the promise of a step means over any stream of F1-frames.
 -- Assumes nothing.
-use mathlib.Core.Path.{_≡_, refl, sym, ap, _∙_}
+use mathlib.Core.Path.{_≡_, refl, _∙_}
 use mathlib.Core.List.{List}
-use Prim.Native.Nat.{ℕ, zero, suc, _+_, _≤_, _<_}
-use native.Mathlib.Omega.{arith}
+use Prim.Native.Nat.{ℕ, suc, _+_, _<_}
 use lib.Bits.{bitXor}
-use lib.ListN.{length, getD, replicate, length-replicate}
-use Rattle.outcome.specs.Bytes.{Bytes, bytes-replicate}
-use Rattle.codeword.specs.Code.{Codeword, changes, Near}
-use Rattle.codeword.specs.NearestLaws.{nearest-complete}
+use lib.ListN.{length, getD, replicate}
+use Rattle.outcome.specs.Bytes.{Bytes}
+use Rattle.codeword.specs.Code.{Codeword}
 use Rattle.lines.specs.Delay.{total}
-use Rattle.lines.specs.Stream.{back, outAt}
-use Rattle.lines.specs.Back.{back-all, back-later, back-before}
+use Rattle.lines.specs.Stream.{back}
+use Rattle.lines.specs.Back.{back-later, back-before}
 use Rattle.lines.specs.Chain.{chainAt}
 use Rattle.circ.specs.Rows.{rowsOfBytes, rowDelay, beforeC2, between, afterC1, readerBeforeC1, readerBetween, readerAfterC2}
-use Rattle.circ.specs.Chains.{writerAt, writerNext, written, c2Word, c1Word, readerAt, readerNext, readerOut, readerDoubt, metC1}
-use Rattle.circ.specs.Codes.{qOf, pOf, corrected, lost, handedOn, circ-coding, circ-correcting}
+use Rattle.circ.specs.Chains.{writerAt, writerNext, written, c2Word, c1Word, readerAt, readerNext, readerOut, readerDoubt}
+use Rattle.circ.specs.Codes.{qOf, pOf, corrected, lost, circ-coding, circ-correcting}
 use Rattle.circ.specs.Writing as writing
+use Rattle.circ.specs.Written as rows
 use Rattle.circ.specs.ThereAndBack as reading
 
 -- F1-frames: 24 bytes at each step
@@ -65,15 +64,15 @@ module _ (f : ℕ → List ℕ) (frames : F1Frames f) where
 
   -- the row of F1 byte b in the F2-frame of step n
   pub byte-row : (b n : ℕ) → b < 24 → getD (f2At f n) (getD rowsOfBytes b 0) 0 ≡ back 0 (λ m. getD (f m) b 0) (rowDelay (getD rowsOfBytes b 0)) n
-  byte-row b n h = writing.byte-written circ-coding f (frames .long) b n h
+  byte-row b n h = rows.byte-written circ-coding f (frames .long) b n h
 
   -- the row of Q byte i, inverted
   pub q-row : (i n : ℕ) → i < 4 → getD (f2At f n) (12 + i) 0 ≡ bitXor (back 0 (λ m. getD (c2Word qOf pOf f m) (12 + i) 0) (rowDelay (12 + i)) n) 255
-  q-row i n h = writing.q-written circ-coding f i n h
+  q-row i n h = rows.q-written circ-coding f i n h
 
   -- the row of P byte i, inverted
   pub p-row : (i n : ℕ) → i < 4 → getD (f2At f n) (28 + i) 0 ≡ bitXor (back 0 (λ m. getD (c1Word qOf pOf f m) (28 + i) 0) (rowDelay (28 + i)) n) 255
-  p-row i n h = writing.p-written circ-coding f i n h
+  p-row i n h = rows.p-written circ-coding f i n h
 
   -- ---- there and back
 

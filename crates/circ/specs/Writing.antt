@@ -1,23 +1,19 @@
--- The writer over time, from fresh: its C2 and C1 words are codewords, and each row of an F2-frame is what entered that row so many steps before as the row waits.
+-- The writer over time, from fresh: what its C2 and C1 words are made of, and that they are codewords.
 -- Assumes nothing.
-use mathlib.Core.Path.{_≡_, sym, ap, ap₂, _∙_}
+use mathlib.Core.Path.{_≡_, ap, _∙_}
 use mathlib.Core.List.{List}
-use Prim.Native.Nat.{ℕ, _+_, _≤_, _<_}
+use Prim.Native.Nat.{ℕ, _≤_, _<_}
 use native.Mathlib.Omega.{arith}
-use lib.Bits.{bitXor, xor-zero-r}
-use lib.ListN.{length, getD, List·getD-eq-default}
+use lib.ListN.{length, getD}
 use Rattle.outcome.specs.Bytes.{Bytes}
-use Rattle.xor.specs.Lists.{added-at}
 use Rattle.lines.specs.Stream.{back, outAt}
-use Rattle.lines.specs.Back.{back-same}
 use Rattle.lines.specs.Section.{section-law, length-out, bytes-out}
-use Rattle.lines.specs.Series.{three}
 use Rattle.lines.specs.Chain.{chained}
 use Rattle.lines.specs.Chained.{chain-law}
-use Rattle.circ.specs.Rows.{placed, rowsOfBytes, beforeC2, between, afterC1, rowDelay, mask, inverted}
+use Rattle.circ.specs.Rows.{placed, beforeC2, between, afterC1, inverted}
 use Rattle.circ.specs.Chains.{withQ, withP, writerOut, writerAt, written, c2Word, c1Word}
 use Rattle.circ.specs.Coding.{Coding}
-use Rattle.circ.specs.Tables.{Carries, carries-low, byte-carried, length-placed, bytes-placed, placed-at, mask-data, mask-parity}
+use Rattle.circ.specs.Tables.{Carries, length-placed, bytes-placed}
 use Rattle.circ.specs.Words.{length-with-q, length-with-p, data-row, low-row, bytes-with-q, bytes-with-p}
 
 -- the F2-frames before their parity is inverted: C1 words of which the even rows come one step later
@@ -103,59 +99,3 @@ module _ {C : List ℕ → Type 0} {q p : List ℕ → List ℕ} (code : Coding 
     pub c1-codeword : (n : ℕ) → C (c1Word q p f n)
     unfolding c1Word
     c1-codeword n = code .code-p (spread n) (length-spread n) (bytes-spread n)
-
-  -- ---- the rows of an F2-frame
-
-  -- row r of the F2-frame of step n
-  frame-row : (r n : ℕ) → r < 32 → getD (written q p f n) r 0 ≡ bitXor (back 0 (λ m. getD (c1Word q p f m) r 0) (getD afterC1 r 0) n) (getD mask r 0)
-  unfolding inverted mask
-  frame-row r n h =
-      ap (λ (t : List ℕ). getD t r 0) (written-is q p f n)
-      ∙ added-at (rowsWritten q p f n) mask r (omega (arith, length-rows-written n)) h
-      ∙ ap (λ (x : ℕ). bitXor x (getD mask r 0)) (section-law afterC1 (λ m. c1Word q p f m) r n wide₃)
-
-  -- a row that waits only in the sections after the one that it enters
-  entered : (x : ℕ → ℕ) (ds : List ℕ) (r m : ℕ) → length ds ≤ r → x m ≡ back 0 x (getD ds r 0) m
-  unfolding back
-  entered x ds r m h = ap (λ (d : ℕ). back 0 x d m) (sym (List·getD-eq-default ds 0 h))
-
-  -- the row of F1 byte b
-  pub byte-written : ((m : ℕ) → length (f m) ≡ 24) → (b n : ℕ) → b < 24
-      → getD (written q p f n) (getD rowsOfBytes b 0) 0 ≡ back 0 (λ m. getD (f m) b 0) (rowDelay (getD rowsOfBytes b 0)) n
-  byte-written f24 b n h =
-      let r = getD rowsOfBytes b 0 in
-      let d = byte-carried b h in
-      frame-row r n (omega (arith, carries-low r d))
-      ∙ ap₂ bitXor
-      (three (λ m. getD (placed (f m)) r 0) (λ m. getD (c2Word q p f m) r 0) (λ m. getD (c1Word q p f m) r 0) (getD beforeC2 r 0) (getD between r 0) (getD afterC1 r 0) n
-      (λ m. c2-data r m d)
-      (λ m. c1-low r m (carries-low r d)))
-      (mask-data b h)
-      ∙ xor-zero-r (back 0 (λ m. getD (placed (f m)) r 0) (rowDelay r) n)
-      ∙ back-same 0 (λ m. getD (placed (f m)) r 0) (λ m. getD (f m) b 0) (rowDelay r) n (λ m. placed-at (f m) b (f24 m) h)
-
-  -- Q byte i, of the C2 words
-  pub q-written : (i n : ℕ) → i < 4
-      → getD (written q p f n) (12 + i) 0 ≡ bitXor (back 0 (λ m. getD (c2Word q p f m) (12 + i) 0) (rowDelay (12 + i)) n) 255
-  unfolding beforeC2
-  q-written i n h =
-      let r = 12 + i in
-      frame-row r n (omega arith)
-      ∙ ap₂ bitXor
-      (three (λ m. getD (c2Word q p f m) r 0) (λ m. getD (c2Word q p f m) r 0) (λ m. getD (c1Word q p f m) r 0) (getD beforeC2 r 0) (getD between r 0) (getD afterC1 r 0) n
-      (λ m. entered (λ k. getD (c2Word q p f k) r 0) beforeC2 r m (omega arith))
-      (λ m. c1-low r m (omega arith)))
-      (mask-parity i h .0)
-
-  -- P byte i, of the C1 words
-  pub p-written : (i n : ℕ) → i < 4
-      → getD (written q p f n) (28 + i) 0 ≡ bitXor (back 0 (λ m. getD (c1Word q p f m) (28 + i) 0) (rowDelay (28 + i)) n) 255
-  unfolding beforeC2 between
-  p-written i n h =
-      let r = 28 + i in
-      frame-row r n (omega arith)
-      ∙ ap₂ bitXor
-      (three (λ m. getD (c1Word q p f m) r 0) (λ m. getD (c1Word q p f m) r 0) (λ m. getD (c1Word q p f m) r 0) (getD beforeC2 r 0) (getD between r 0) (getD afterC1 r 0) n
-      (λ m. entered (λ k. getD (c1Word q p f k) r 0) beforeC2 r m (omega arith))
-      (λ m. entered (λ k. getD (c1Word q p f k) r 0) between r m (omega arith)))
-      (mask-parity i h .1)

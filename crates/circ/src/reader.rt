@@ -16,9 +16,10 @@ use crate::ReaderAnswer;
 use crate::ReaderStep;
 use crate::invert;
 use crate::join;
+use crate::reader_waits::AFTER_C2;
+use crate::reader_waits::BEFORE_C1;
+use crate::reader_waits::BETWEEN;
 use crate::section;
-use crate::reader_waits::{AFTER_C2, BEFORE_C1, BETWEEN};
-
 use codeword::Verdict;
 
 // The word becomes the codeword near it, if there is one; the answer is the mark of a word that has none.

@@ -13,8 +13,9 @@ use crate::WriterStep;
 use crate::invert;
 use crate::join;
 use crate::section;
-use crate::writer_waits::{BEFORE_C2, BETWEEN, AFTER_C1};
-
+use crate::writer_waits::AFTER_C1;
+use crate::writer_waits::BEFORE_C2;
+use crate::writer_waits::BETWEEN;
 
 // The 28 rows of an F1-frame.
 fn place(frame: &[u8]) -> [u8; 28]

@@ -1,12 +1,12 @@
 -- Step by step from a fresh store, a chain of three sections gives what its streams give.
 -- Assumes nothing.
-use mathlib.Core.Path.{_≡_, refl, sym, ap, _∙_}
+use mathlib.Core.Path.{_≡_, sym, ap, _∙_}
 use mathlib.Core.List.{List, _++_}
 use Prim.Native.Nat.{ℕ, zero, suc, _+_}
 use native.Mathlib.Omega.{arith}
 use lib.ListN.{length, take, drop, replicate, replicate-append-replicate}
 use lib.Seq.{take-at, drop-at, take-all, drop-drop}
-use Rattle.lines.specs.Delay.{rowsOut, rowsNext, total}
+use Rattle.lines.specs.Delay.{rowsOut, total}
 use Rattle.lines.specs.Stream.{stateAt, outAt}
 use Rattle.lines.specs.Section.{length-state}
 use Rattle.lines.specs.Chain.{lines₁, lines₂, lines₃, word₂, word₃, chainOut, chainNext, chainAt, chained, stream₁, stream₂}

@@ -1,6 +1,6 @@
 -- Delay lines. A line of d bytes holds what came in the last d steps, the oldest first.
 -- Assumes nothing.
-use Prim.Native.Nat.{ℕ, zero, suc, _+_}
+use Prim.Native.Nat.{ℕ, _+_}
 use mathlib.Core.List.{List, [], _∷_, _++_}
 use lib.ListN.{take, drop, getD}
 

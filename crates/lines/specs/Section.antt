@@ -5,7 +5,7 @@ use mathlib.Core.List.{List, [], _∷_, _++_}
 use Prim.Native.Nat.{ℕ, zero, suc, _+_, _≤_, _<_}
 use native.Mathlib.Nat.{not-suc-le-zero, le-of-suc-le-suc}
 use native.Mathlib.Omega.{arith}
-use lib.ListN.{length, take, drop, getD, replicate, length-replicate, replicate-append-replicate}
+use lib.ListN.{length, drop, getD, replicate, length-replicate, replicate-append-replicate}
 use lib.Seq.{take-at, drop-at}
 use Rattle.outcome.specs.Bytes.{Bytes}
 use Rattle.lines.specs.Delay.{lineOut, lineNext, rowsOut, rowsNext, total}

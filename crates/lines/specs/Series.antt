@@ -1,11 +1,11 @@
 -- Sections in a row: the waits of a row add up, and where they add up to one number in each row, whole words come out so many steps later.
 -- Assumes nothing.
-use mathlib.Core.Path.{_≡_, refl, sym, ap, _∙_}
+use mathlib.Core.Path.{_≡_, sym, ap, _∙_}
 use mathlib.Core.List.{List}
 use Prim.Native.Nat.{ℕ, _+_, _≤_, _<_}
 use native.Mathlib.Omega.{arith}
-use lib.ListN.{length, take, getD, replicate, length-replicate, getD-replicate}
-use lib.Seq.{take-all, ext-getD}
+use lib.ListN.{length, getD, replicate, length-replicate, getD-replicate}
+use lib.Seq.{ext-getD}
 use Rattle.lines.specs.Stream.{back, outAt}
 use Rattle.lines.specs.Back.{back-same, back-back, back-map, back-all}
 use Rattle.lines.specs.Section.{section-law, length-out}

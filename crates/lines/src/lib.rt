@@ -1,7 +1,6 @@
 // Delay lines of bytes, one after the other in one flat store.
 ghost use mathlib.Core.Path.{_≡_};
 ghost use Prim.Native.Nat.{_-_};
-ghost use lib.ListN.{length};
 ghost use Rattle.lines.specs.Delay.{lineNext, rowsOut, rowsNext};
 
 // The smaller of two numbers.

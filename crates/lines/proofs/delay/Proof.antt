@@ -1,14 +1,15 @@
 -- `lines::delay` meets its contract. The loop's invariant is `Going`: what stands before the place reached, the carry and the step that is left are
 -- the step as it is defined; `skip` and `turn` carry it over a row, and the shift at the end takes the carry in (`done-next`).
 -- Assumes nothing.
-use Prim.Native.Nat.{ℕ, _-_, _+_, _≤_, _<_}
-use mathlib.Core.Path.{_≡_, refl, sym, ap, _∙_}
+use Prim.Native.Nat.{ℕ, _-_, _+_}
+use mathlib.Core.Path.{_≡_, sym, ap, _∙_}
 use mathlib.Core.List.{List, _++_}
 use native.Mathlib.Omega.{arith}
 use borrow.Author.Needs.{needs}
 use lib.ListN.{length, drop}
 use lib.Seq.{length-take-le}
-use Rattle.lines.proofs.Rows.{Going, start, skip, turn, done-out, done-next, done-length}
+use Rattle.lines.proofs.Going.{Going, start, skip, turn}
+use Rattle.lines.proofs.Done.{done-out, done-next, done-length}
 use Rattle.lines.proofs.delay.Statement.{statement}
 use Rattle.lines.proofs.delay.Tie as tie
 

@@ -1,6 +1,6 @@
 -- `lines::shift` meets its contract: the loop fills the line with what it is after the step (`Fill`); a byte that is read is not written yet, so it is the old one.
 -- Assumes nothing.
-use Prim.Native.Nat.{ℕ, _+_, _-_, _≤_, _<_}
+use Prim.Native.Nat.{ℕ, _+_, _-_, _≤_}
 use mathlib.Core.Path.{_≡_, sym, ap, _∙_}
 use native.Mathlib.Omega.{arith}
 use borrow.Author.Needs.{needs}

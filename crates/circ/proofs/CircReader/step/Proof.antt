@@ -1,7 +1,6 @@
 -- `circ::CircReader::step` meets its contract: the two tests are the two demands, in their order; `go` is the step itself.
 -- Assumes nothing.
 use mathlib.Core.Path.{ap, ap₂, _∙_}
-use mathlib.Core.List.{[]}
 use Rattle.outcome.specs.Say.{Say}
 use Rattle.circ.specs.declared.ReaderAnswer.{ReaderAnswer}
 use Rattle.circ.specs.declared.CircReader.{CircReader}

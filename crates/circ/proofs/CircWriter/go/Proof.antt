@@ -1,6 +1,5 @@
 -- `circ::CircWriter::go` meets its contract: three sections over three parts of the store, with C2 and C1 between them, are a step of the chain (`chain-step`).
 -- Assumes nothing.
-use Prim.Native.Nat.{ℕ}
 use mathlib.Core.Path.{_≡_, refl, ap, _∙_}
 use native.Mathlib.Omega.{arith}
 use lib.ListN.{length}

@@ -1,8 +1,7 @@
 -- `circ::CircWriter::step` meets its contract: the two tests are the two demands, in their order; `go` is the step itself.
 -- Assumes nothing.
-use mathlib.Core.Path.{ap, ap₂, _∙_}
+use mathlib.Core.Path.{ap₂, _∙_}
 use mathlib.Core.List.{[]}
-use Rattle.outcome.specs.Say.{Say}
 use Rattle.circ.specs.declared.WriterAnswer.{WriterAnswer}
 use Rattle.circ.specs.declared.CircWriter.{CircWriter}
 use Rattle.circ.specs.Answers.{writerSay}
