@@ -3,29 +3,19 @@
 use mathlib.Core.Path.{_≡_, refl, sym, ap, _∙_}
 use mathlib.Core.Bool.{Bool, true, false}
 use mathlib.Core.List.{List, [], _∷_}
-use Prim.Native.Nat.{ℕ, zero, suc, _-_, _≤_, _<_}
-use native.Mathlib.Omega.{arith}
+use Prim.Native.Nat.{ℕ, _≤_, _<_}
 use borrow.Author.Tests.{lt-ltb, le-ltb}
-use lib.Dec.{eqb, eqb→eq, ltb}
+use lib.Dec.{eqb, eqb→eq}
 use lib.ListN.{length, getD}
 use Rattle.outcome.specs.First.{firstBelow}
 use Rattle.outcome.specs.Table.{allBelow, below, of-true}
 use Rattle.codeword.specs.Code.{sums}
 use Rattle.codeword.specs.Nearest.{verdict}
-use Rattle.codeword.specs.Fault.{allZero, fits, fault, cure}
+use Rattle.codeword.specs.Fault.{allZero, fits, faultAt, fault, cure}
 use Rattle.codeword.specs.FaultLaws.{verdict-by-sums}
 use Rattle.codeword.specs.declared.Fault.{Fault}
-use Rattle.codeword.specs.declared.Fault.the-variants.{Clean, At, Lost}
+use Rattle.codeword.specs.declared.Fault.the-variants.{Clean, Lost}
 use Rattle.codeword.specs.declared.Verdict.{Verdict}
-
--- an array of four as the list of its elements
-pub four-listed : (s : List ℕ) → length s ≡ 4 → s ≡ getD s 0 0 ∷ getD s 1 0 ∷ getD s 2 0 ∷ getD s 3 0 ∷ []
-four-listed [] e = absurd (omega arith)
-four-listed (a ∷ []) e = absurd (omega arith)
-four-listed (a ∷ b ∷ []) e = absurd (omega arith)
-four-listed (a ∷ b ∷ c ∷ []) e = absurd (omega arith)
-four-listed (a ∷ b ∷ c ∷ d ∷ []) e = refl
-four-listed (a ∷ b ∷ c ∷ d ∷ x ∷ s) e = absurd (omega arith)
 
 -- ---- are all sums 0?
 
@@ -58,13 +48,9 @@ module _ (s : List ℕ) (k : ℕ) where
     unfolding fault
     fault-none z = rw (le-ltb 255 k h, z)
 
-    pub fault-here : allZero s ≡ false → {m : ℕ} → m ≡ firstBelow (fits s) k → m < k → At (k - 1 - m) (getD s 0 0) ≡ fault s k
+    pub fault-found : allZero s ≡ false → {m : ℕ} {f : Fault} → m ≡ firstBelow (fits s) k → f ≡ faultAt (getD s 0 0) k m → f ≡ fault s k
     unfolding fault
-    fault-here z e l = rw (le-ltb 255 k h, z, ← e, lt-ltb _ k l)
-
-    pub fault-nowhere : allZero s ≡ false → {m : ℕ} → m ≡ firstBelow (fits s) k → k ≤ m → Lost ≡ fault s k
-    unfolding fault
-    fault-nowhere z e l = rw (le-ltb 255 k h, z, ← e, le-ltb _ k l)
+    fault-found z e p = rw (le-ltb 255 k h, z, ← e) p
 
 -- ---- from the sums of a word to the verdict on it
 

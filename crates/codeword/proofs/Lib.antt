@@ -1,3 +1,4 @@
+pub mod Listed
 pub mod Search
 pub mod Faults
 pub mod Solved

@@ -1,6 +1,6 @@
 -- Parity in four bytes from the sums of a word: behind the word, and at 12 to 15 of 28.
 -- Assumes nothing.
-use mathlib.Core.Path.{_≡_, refl, sym, ap, ap₂, _∙_, subst}
+use mathlib.Core.Path.{_≡_, refl, sym, ap, ap₂, _∙_}
 use mathlib.Core.List.{List, [], _∷_, _++_}
 use Prim.Native.Nat.{ℕ, zero, suc, _+_, _*_, _%_, _<_}
 use native.Mathlib.Omega.{arith}
@@ -12,7 +12,7 @@ use Rattle.field.specs.Field.{power, mul}
 use Rattle.codeword.specs.Code.{sum, sums}
 use Rattle.codeword.specs.Parity.{WithSums, Parity}
 use Rattle.codeword.specs.ParityLaws.{parity-behind, parity-added, power-back}
-use Rattle.codeword.proofs.Faults.{four-listed}
+use Rattle.codeword.proofs.Listed.{four-listed}
 use Rattle.codeword.specs.Sums.{times-0, sum-lt, added, length-added, bytes-added}
 
 -- the sums s of w, each moved by a power
@@ -59,7 +59,7 @@ module _ (w s : List ℕ) (h : Bytes w) (e : s ≡ sums 4 w) where
           long = length-added there q same ∙ there-long;
           bytes = bytes-added there q bytes (Q .bytes);
           code =
-            parity-added 4 (take 12 w) there q (drop 16 w) bytes (Q .bytes) same
+              parity-added 4 (take 12 w) there q (drop 16 w) bytes (Q .bytes) same
               (λ j l.
               ap (λ (n : ℕ). mul (sum j q) (power (j * n))) rest
               ∙ ap (λ (x : ℕ). mul x (power (j * 12))) (Q .sums j l) ∙ moved j l ∙ ap (sum j) (sym parts));
@@ -84,7 +84,7 @@ module _ (w s : List ℕ) (h : Bytes w) (e : s ≡ sums 4 w) where
     -- as the function adds it
     pub added-there : (q : List ℕ) → length q ≡ 4
         → added there q
-          ≡ bitXor (getD w 12 0) (getD q 0 0) ∷ bitXor (getD w 13 0) (getD q 1 0) ∷ bitXor (getD w 14 0) (getD q 2 0) ∷ bitXor (getD w 15 0) (getD q 3 0) ∷ []
+        ≡ bitXor (getD w 12 0) (getD q 0 0) ∷ bitXor (getD w 13 0) (getD q 1 0) ∷ bitXor (getD w 14 0) (getD q 2 0) ∷ bitXor (getD w 15 0) (getD q 3 0) ∷ []
     unfolding added
     added-there q l = ap₂ added (four-listed there there-long) (four-listed q l) ∙ simp (there-at 0 (omega arith), there-at 1 (omega arith), there-at 2 (omega arith), there-at 3 (omega arith))
       where

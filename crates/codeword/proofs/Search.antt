@@ -1,13 +1,13 @@
 -- The search for the byte that is wrong: of the places that the loop has passed, none fits, and it carries s0 α^(jm) along.
 -- Assumes nothing.
-use mathlib.Core.Path.{_≡_, refl, sym, ap, ap₂, _∙_}
+use mathlib.Core.Path.{_≡_, sym, ap, _∙_}
 use mathlib.Core.Bool.{Bool, true}
 use mathlib.Core.List.{List, [], _∷_}
 use Prim.Native.Nat.{ℕ, zero, suc, _+_, _*_, _≤_, _<_}
-use native.Mathlib.Nat.{mul-zero, mul-suc, one-mul}
+use native.Mathlib.Nat.{mul-zero, mul-suc}
 use native.Mathlib.Numerals.{add-one}
 use native.Mathlib.Omega.{arith}
-use borrow.Author.Count.{below-none, below-more}
+use borrow.Author.Count.{below-more}
 use borrow.Author.Tests.{eq-eqb}
 use lib.Dec.{eqb, eqb→eq}
 use lib.ListN.{length, getD}
@@ -57,7 +57,7 @@ module _ (s : List ℕ) (m : ℕ) where
   unfolding fits fit
   fits-all e =
       true-of (allBelow (fit s m) (length s))
-        (all-below (fit s m) (length s) (λ j h. of-true (fit s m j) (eq-eqb (getD s j 0) (mul (getD s 0 0) (power (j * m))) (e j h))))
+      (all-below (fit s m) (length s) (λ j h. of-true (fit s m j) (eq-eqb (getD s j 0) (mul (getD s 0 0) (power (j * m))) (e j h))))
 
   pub fits-not : (j : ℕ) {t : ℕ} → j < length s → t ≡ mul (getD s 0 0) (power (j * m)) → (t ≡ getD s j 0 → ⊥) → fits s m ≡ true → ⊥
   unfolding fits fit

@@ -3,7 +3,7 @@
 use mathlib.Core.Path.{_≡_, refl, sym, ap, ap₂, _∙_}
 use mathlib.Core.Bool.{cond}
 use mathlib.Core.Logic.{_⊎_, inl, inr}
-use mathlib.Core.List.{List, [], _∷_, _++_}
+use mathlib.Core.List.{List, [], _∷_}
 use Prim.Native.Nat.{ℕ, zero, suc, _+_, _≤_, _<_}
 use native.Mathlib.Decide.{ℕ-discrete}
 use native.Mathlib.Omega.{arith}
@@ -97,9 +97,9 @@ one-change (x ∷ a) (y ∷ b) e h = go (ℕ-discrete x y) (one-change a b (omeg
     go (yes p) r = later p (r (omega (arith, unlike-same x y p)))
     go (no n) r =
         inr
-          (record {
-            place = 0;
-            value = y;
-            inside = omega arith;
-            is = ap (λ (t : List ℕ). y ∷ t) (sym (changes-none a b (omega arith) (omega (arith, unlike-other x y n))));
-          })
+        (record {
+          place = 0;
+          value = y;
+          inside = omega arith;
+          is = ap (λ (t : List ℕ). y ∷ t) (sym (changes-none a b (omega arith) (omega (arith, unlike-other x y n))));
+        })

@@ -6,95 +6,22 @@ use mathlib.Core.Path.{_≡_, refl, sym, ap, ap₂, _∙_}
 use mathlib.Core.Bool.{cond}
 use mathlib.Core.List.{List, [], _∷_}
 use Prim.Native.Nat.{ℕ, zero, suc, _+_, _*_, _≤_, _<_}
-use native.Mathlib.Nat.{suc-mul, add-comm}
+use native.Mathlib.Nat.{suc-mul}
 use native.Mathlib.Decide.{ℕ-discrete}
 use native.Mathlib.Omega.{arith}
-use lib.Bits.{bitXor, xor-self, xor-lt}
+use lib.Bits.{bitXor, xor-self}
 use lib.Dec.{eqb}
 use lib.ListN.{length, replicate}
-use Rattle.outcome.specs.Bytes.{Bytes, bytes-nil, bytes-cons}
-use Rattle.xor.specs.Laws.{xor-swap, xor-equal}
+use Rattle.outcome.specs.Bytes.{Bytes}
+use Rattle.xor.specs.Laws.{xor-equal}
 use Rattle.field.specs.Field.{power, mul}
-use Rattle.field.specs.Linear.{mul-xor, mul-xor-r, mul-zero-l}
-use Rattle.field.specs.Powers.{power-lt, power-inj}
-use Rattle.field.specs.Laws.{mul-swap, mul-byte, mul-domain, mul-power-add}
+use Rattle.field.specs.Linear.{mul-zero-l}
+use Rattle.field.specs.Powers.{power-lt}
+use Rattle.field.specs.Laws.{mul-power-add}
 use Rattle.codeword.specs.Code.{sum, Codeword, changes}
 use Rattle.codeword.specs.Sums.{times-none, added, length-added, bytes-added, sum-added}
 use Rattle.codeword.specs.Changes.{unlike-same, unlike-other, unlike-le}
-
--- how many bytes are not 0
-unfoldable pub weight : List ℕ → ℕ
-weight [] = 0
-weight (x ∷ d) = cond (eqb x 0) 0 1 + weight d
-
-abbrev zeros : List ℕ → List ℕ
-zeros d = replicate (length d) 0
-
-head-zero : (x : ℕ) (d : List ℕ) → x ≡ 0 → d ≡ zeros d → x ∷ d ≡ zeros (x ∷ d)
-head-zero x d e f = ap₂ _∷_ e f
-
--- ---- each byte times (its weight + c)
-
-twist : ℕ → List ℕ → List ℕ
-twist c [] = []
-twist c (b ∷ d) = mul b (bitXor (power (length d)) c) ∷ twist c d
-
-length-twist : (c : ℕ) (d : List ℕ) → length (twist c d) ≡ length d
-unfolding twist
-length-twist c [] = refl
-length-twist c (b ∷ d) = ap suc (length-twist c d)
-
-bytes-twist : (c : ℕ) (d : List ℕ) → c < 256 → Bytes d → Bytes (twist c d)
-unfolding twist
-bytes-twist c [] hc h = bytes-nil
-bytes-twist c (b ∷ d) hc h =
-    bytes-cons (mul b (bitXor (power (length d)) c)) (twist c d)
-    (mul-byte b (bitXor (power (length d)) c) (h 0) (xor-lt 8 (power (length d)) c (power-lt (length d)) hc))
-    (bytes-twist c d hc (λ i. h (suc i)))
-
-weight-twist : (c : ℕ) (d : List ℕ) → weight (twist c d) ≤ weight d
-unfolding twist weight
-weight-twist c [] = omega arith
-weight-twist c (b ∷ d) = go (ℕ-discrete b 0) (weight-twist c d)
-  where
-    go : Dec (b ≡ 0) → weight (twist c d) ≤ weight d → weight (twist c (b ∷ d)) ≤ weight (b ∷ d)
-    go (yes s) r =
-        omega
-          (arith,
-           unlike-same (mul b (bitXor (power (length d)) c)) 0
-             (ap (λ (x : ℕ). mul x (bitXor (power (length d)) c)) s ∙ mul-zero-l (bitXor (power (length d)) c)))
-    go (no s) r = omega (arith, unlike-other b 0 s, unlike-le (mul b (bitXor (power (length d)) c)) 0)
-
-sum-twist : (j c : ℕ) (d : List ℕ) → c < 256 → Bytes d → sum j (twist c d) ≡ bitXor (sum (suc j) d) (mul (sum j d) c)
-unfolding twist sum
-sum-twist j c [] hc h = sym (mul-zero-l c)
-sum-twist j c (b ∷ d) hc h =
-    let n : ℕ = length d in
-    ap₂ bitXor
-      (ap (λ (m : ℕ). mul (mul b (bitXor (power n) c)) (power (j * m))) (length-twist c d)
-       ∙ ap (λ (x : ℕ). mul x (power (j * n))) (mul-xor-r b (power n) c)
-       ∙ mul-xor (mul b (power n)) (mul b c) (power (j * n))
-       ∙ ap₂ bitXor
-           (mul-power-add b n (j * n) (h 0) ∙ ap (λ (m : ℕ). mul b (power m)) (add-comm n (j * n) ∙ sym (suc-mul j n)))
-           (mul-swap b c (power (j * n)) (h 0) hc (power-lt (j * n))))
-      (sum-twist j c d hc (λ i. h (suc i)))
-    ∙ xor-swap (mul b (power (suc j * n))) (mul (mul b (power (j * n))) c) (sum (suc j) d) (mul (sum j d) c)
-    ∙ ap (bitXor (bitXor (mul b (power (suc j * n))) (sum (suc j) d))) (sym (mul-xor (mul b (power (j * n))) (sum j d) c))
-
--- where the weights differ from c, only zeros become zeros
-untwist : (n : ℕ) (d : List ℕ) → n < 255 → length d ≤ n → Bytes d → twist (power n) d ≡ zeros d → d ≡ zeros d
-unfolding twist
-untwist n [] hn l h z = refl
-untwist n (b ∷ d) hn l h z =
-    let p : mul b (bitXor (power (length d)) (power n)) ≡ 0 = cc in
-    let q : twist (power n) d ≡ zeros d = cc in
-    head-zero b d
-      (mul-domain b (bitXor (power (length d)) (power n)) (h 0) (xor-lt 8 (power (length d)) (power n) (power-lt (length d)) (power-lt n))
-        (λ e. other (power-inj (length d) n (omega arith) hn (xor-equal (power (length d)) (power n) e))) p)
-      (untwist n d hn (omega arith) (λ i. h (suc i)) q)
-  where
-    other : length d ≡ n → ⊥
-    other e = omega arith
+use Rattle.codeword.specs.Twist.{weight, zeros, head-zero, twist, length-twist, bytes-twist, weight-twist, sum-twist, untwist}
 
 -- ---- the law
 
@@ -130,28 +57,28 @@ lighter J ih (x ∷ d) h l w s = go (ℕ-discrete x 0) (lighter J ih d (λ i. h 
     twisted j hj =
         sum-twist j (power (length d)) d (power-lt (length d)) (λ i. h (suc i))
         ∙ ap₂ bitXor
-            (rest (suc j) (omega arith))
-            (ap (λ (y : ℕ). mul y (power (length d))) (rest j (omega arith))
-             ∙ mul-power-add x (j * length d) (length d) (h 0) ∙ ap (λ (m : ℕ). mul x (power m)) (sym (suc-mul j (length d))))
+        (rest (suc j) (omega arith))
+        (ap (λ (y : ℕ). mul y (power (length d))) (rest j (omega arith))
+        ∙ mul-power-add x (j * length d) (length d) (h 0) ∙ ap (λ (m : ℕ). mul x (power m)) (sym (suc-mul j (length d))))
         ∙ xor-self (mul x (power (suc j * length d)))
 
     never : (x ≡ 0 → ⊥) → ⊥
     never nz =
         let t : List ℕ = twist (power (length d)) d in
         let z : t ≡ zeros t =
-              ih t (bytes-twist (power (length d)) d (power-lt (length d)) (λ i. h (suc i)))
-                (omega (arith, length-twist (power (length d)) d))
-                (omega (arith, weight-twist (power (length d)) d, unlike-other x 0 nz)) twisted in
+        ih t (bytes-twist (power (length d)) d (power-lt (length d)) (λ i. h (suc i)))
+        (omega (arith, length-twist (power (length d)) d))
+        (omega (arith, weight-twist (power (length d)) d, unlike-other x 0 nz)) twisted in
         let y : d ≡ zeros d =
-              untwist (length d) d (omega arith) (omega arith) (λ i. h (suc i))
-                (z ∙ ap (λ (k : ℕ). replicate k 0) (length-twist (power (length d)) d)) in
+        untwist (length d) d (omega arith) (omega arith) (λ i. h (suc i))
+        (z ∙ ap (λ (k : ℕ). replicate k 0) (length-twist (power (length d)) d)) in
         nz (sym (times-none x (length d)) ∙ sym (rest 0 (omega arith)) ∙ ap (sum 0) y ∙ sum-zeros 0 (length d))
 
     go : Dec (x ≡ 0) → (weight d ≤ suc J → Codeword (suc J) d → d ≡ zeros d) → x ∷ d ≡ zeros (x ∷ d)
     go (yes e) r =
         head-zero x d e
-          (r (omega (arith, unlike-same x 0 e))
-            (λ j hj. rest j hj ∙ ap (λ (y : ℕ). mul y (power (j * length d))) e ∙ mul-zero-l (power (j * length d))))
+        (r (omega (arith, unlike-same x 0 e))
+        (λ j hj. rest j hj ∙ ap (λ (y : ℕ). mul y (power (j * length d))) e ∙ mul-zero-l (power (j * length d))))
     go (no nz) r = absurd (never nz)
 
 -- a word of at most 255 bytes with J sums 0 and at most J bytes not 0 is all zeros
@@ -187,9 +114,9 @@ pub same-sums : (J : ℕ) (a b : List ℕ) → length a ≡ length b → length 
     → ((j : ℕ) → j < J → sum j a ≡ sum j b) → changes a b ≤ J → a ≡ b
 same-sums J a b e k ha hb s h =
     added-zero a b e
-      (distance J (added a b) (bytes-added a b ha hb) (omega (arith, length-added a b e)) (omega (arith, weight-added a b e))
-        (λ j hj. sum-added j a b e ∙ ap (λ (x : ℕ). bitXor x (sum j b)) (s j hj) ∙ xor-self (sum j b))
-       ∙ ap (λ (n : ℕ). replicate n 0) (length-added a b e))
+    (distance J (added a b) (bytes-added a b ha hb) (omega (arith, length-added a b e)) (omega (arith, weight-added a b e))
+    (λ j hj. sum-added j a b e ∙ ap (λ (x : ℕ). bitXor x (sum j b)) (s j hj) ∙ xor-self (sum j b))
+    ∙ ap (λ (n : ℕ). replicate n 0) (length-added a b e))
 
 -- two codewords that differ in at most J places are equal
 pub codewords-differ : (J : ℕ) (a b : List ℕ) → length a ≡ length b → length a ≤ 255 → Bytes a → Bytes b

@@ -1,4 +1,4 @@
--- The fault of a word by its sums alone, for many words whose sums are made in one sweep. One byte that is wrong by e, and that m
+-- The fault of a word by its sums alone (Annex A, Annex C.7), for many words whose sums are made in one sweep. One byte that is wrong by e, and that m
 -- bytes come after, makes each sum e α^(jm).
 -- Assumes nothing.
 use mathlib.Core.Bool.{Bool, cond}
@@ -24,13 +24,13 @@ allZero s = allBelow (λ j. eqb (getD s j 0) 0) (length s)
 unfoldable pub fits : List ℕ → ℕ → Bool
 fits s m = allBelow (λ j. eqb (getD s j 0) (mul (getD s 0 0) (power (j * m)))) (length s)
 
--- the byte that m bytes come after is wrong by the first sum, where a word of k bytes has it
-abbrev pub faultAt : List ℕ → ℕ → ℕ → Fault
-faultAt s k m = cond (ltb m k) (faults.At (placeBefore m k) (getD s 0 0)) faults.Lost
+-- the byte that m bytes come after is wrong by e, where a word of k bytes has it
+abbrev pub faultAt : ℕ → ℕ → ℕ → Fault
+faultAt e k m = cond (ltb m k) (faults.At (placeBefore m k) e) faults.Lost
 
 -- the fault of a word of k bytes whose first sums are s
 unfoldable pub fault : List ℕ → ℕ → Fault
-fault s k = cond (ltb 255 k) faults.Lost (cond (allZero s) faults.Clean (faultAt s k (firstBelow (fits s) k)))
+fault s k = cond (ltb 255 k) faults.Lost (cond (allZero s) faults.Clean (faultAt (getD s 0 0) k (firstBelow (fits s) k)))
 
 -- what to do with a word that has this fault
 abbrev pub cure : List ℕ → Fault → Verdict

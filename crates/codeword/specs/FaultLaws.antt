@@ -1,29 +1,29 @@
 -- The fault by the sums decides as the verdict on the word does, so it finds the codeword near a word exactly where there is one.
 -- Assumes nothing.
-use mathlib.Core.Path.{_≡_, refl, sym, ap, ap₂, _∙_, subst}
+use mathlib.Core.Path.{_≡_, refl, sym, ap, ap₂, _∙_}
 use mathlib.Core.Bool.{Bool, true, false, cond, _&&_}
 use mathlib.Core.List.{List}
-use mathlib.Core.Option.{Option, none, some}
-use Prim.Native.Nat.{ℕ, zero, suc, _*_, _-_, _≤_, _<_}
+use mathlib.Core.Option.{some}
+use Prim.Native.Nat.{ℕ, zero, suc, _*_, _≤_, _<_}
 use native.Mathlib.Decide.{ℕ-discrete}
 use native.Mathlib.Omega.{arith}
 use lib.Bits.{bitXor, xor-self}
 use lib.Dec.{eqb, ltb}
 use lib.ListN.{length, getD, set}
-use borrow.Author.Tests.{eq-eqb, ne-eqb, ltb-true}
+use borrow.Author.Tests.{eq-eqb, ne-eqb, le-ltb, ltb-true}
 use Rattle.outcome.specs.Bytes.{Bytes}
 use Rattle.outcome.specs.First.{firstBelow, first-below, found-first}
 use Rattle.outcome.specs.Table.{allBelow, length-tabulated, tabulated-at}
 use Rattle.xor.specs.Laws.{xor-equal}
 use Rattle.field.specs.Field.{power, mul}
 use Rattle.codeword.specs.Code.{sum, sums, Codeword, Near}
-use Rattle.codeword.specs.Nearest.{isCodeword, placeBefore, newByte, changed, change, bytesAfter, verdict, mended, nearest}
-use Rattle.codeword.specs.NearestLaws.{nearest-sound, nearest-none}
-use Rattle.codeword.specs.Fault.{allZero, fits, faultAt, fault, cure}
+use Rattle.codeword.specs.Nearest.{isCodeword, placeBefore, newByte, changed, bytesAfter, verdict, mended, nearest}
+use Rattle.codeword.specs.NearestLaws.{nearest-sound, nearest-complete, nearest-none}
+use Rattle.codeword.specs.NearLaws.{test-of-code}
+use Rattle.codeword.specs.Fault.{allZero, fits, fault, cure}
 use Rattle.codeword.specs.Sums.{sum-set}
 use Rattle.codeword.specs.declared.Fault.{Fault}
 use Rattle.codeword.specs.declared.Fault.the-variants as faults
-use Rattle.codeword.specs.declared.Verdict.{Verdict}
 use Rattle.codeword.specs.declared.Verdict.the-variants as verdicts
 
 -- ---- tests that agree
@@ -69,10 +69,10 @@ module _ (J : ℕ) (w : List ℕ) where
   unfolding isCodeword fits changed
   fits-code m h =
       same-all (λ j. eqb (sum j (changed w m)) 0) (λ j. eqb (getD (sums J w) j 0) (mul (getD (sums J w) 0 0) (power (j * m)))) J
-        (λ j k.
-        ap (λ (x : ℕ). eqb x 0) (sum-set j w (placeBefore m (length w)) m (sum 0 w) (omega arith))
-        ∙ xor-eqb (sum j w) (mul (sum 0 w) (power (j * m)))
-        ∙ ap₂ (λ (x y : ℕ). eqb x (mul y (power (j * m)))) (sym (sums-at j k)) (sym (sums-at 0 (omega arith))))
+      (λ j k.
+      ap (λ (x : ℕ). eqb x 0) (sum-set j w (placeBefore m (length w)) m (sum 0 w) (omega arith))
+      ∙ xor-eqb (sum j w) (mul (sum 0 w) (power (j * m)))
+      ∙ ap₂ (λ (x y : ℕ). eqb x (mul y (power (j * m)))) (sym (sums-at j k)) (sym (sums-at 0 (omega arith))))
       ∙ ap (allBelow (λ j. eqb (getD (sums J w) j 0) (mul (getD (sums J w) 0 0) (power (j * m))))) (sym sums-long)
 
   -- ---- the verdict on a word is what its sums say
@@ -81,12 +81,12 @@ module _ (J : ℕ) (w : List ℕ) where
   unfolding verdict fault
   verdict-by-sums hj =
       rw (← zero-code, ← same-first (λ m. isCodeword J (changed w m)) (fits (sums J w)) (length w) fits-code, sums-at 0 hj)
-        (go (ltb 255 (length w)) (isCodeword J w) (ltb (bytesAfter J w) (length w)))
+      (go (ltb 255 (length w)) (isCodeword J w) (ltb (bytesAfter J w) (length w)))
     where
       go : (long code inside : Bool)
           → cond long verdicts.Lost
-              (cond code verdicts.Clean (cond inside (verdicts.Change (placeBefore (bytesAfter J w) (length w)) (newByte w (bytesAfter J w))) verdicts.Lost))
-            ≡ cure w (cond long faults.Lost (cond code faults.Clean (cond inside (faults.At (placeBefore (bytesAfter J w) (length w)) (sum 0 w)) faults.Lost)))
+          (cond code verdicts.Clean (cond inside (verdicts.Change (placeBefore (bytesAfter J w) (length w)) (newByte w (bytesAfter J w))) verdicts.Lost))
+          ≡ cure w (cond long faults.Lost (cond code faults.Clean (cond inside (faults.At (placeBefore (bytesAfter J w) (length w)) (sum 0 w)) faults.Lost)))
       go true code inside = refl
       go false true inside = refl
       go false false true = refl
@@ -126,3 +126,11 @@ module _ (J : ℕ) (w : List ℕ) (hb : Bytes w) (hj : 2 ≤ J) where
 
   pub fault-lost : length w ≤ 255 → fault (sums J w) (length w) ≡ faults.Lost → (c : List ℕ) → Near J w c → ⊥
   fault-lost k e = nearest-none J w hb hj k (nearest-by-sums J w (omega arith) ∙ ap (λ (x : Fault). mended w (cure w x)) e)
+
+  -- a codeword has no fault, and what is near is found
+  pub code-fault : length w ≤ 255 → Codeword J w → fault (sums J w) (length w) ≡ faults.Clean
+  unfolding fault
+  code-fault k c = rw (le-ltb 255 (length w) k, ← zero-code J w, test-of-code J w c)
+
+  pub fault-complete : length w ≤ 255 → (c : List ℕ) → Near J w c → mended w (cure w (fault (sums J w) (length w))) ≡ some c
+  fault-complete k c n = sym (nearest-by-sums J w (omega arith)) ∙ nearest-complete J w hb hj k c n

@@ -5,9 +5,13 @@ pub mod Parity
 pub mod Pair
 pub mod Sums
 pub mod Changes
+pub mod Twist
 pub mod Distance
+pub mod NearLaws
 pub mod NearestLaws
 pub mod FaultLaws
+pub mod Dot
 pub mod Forms
 pub mod Solve
 pub mod ParityLaws
+pub mod ParityExists

@@ -1,4 +1,4 @@
--- The verdict on a word and the codeword near it. That this is the one c with `Near J w c`, and that it is found wherever there is
+-- The verdict on a word and the codeword near it (Annex A, Annex C.7). That this is the one c with `Near J w c`, and that it is found wherever there is
 -- one, are the laws of `NearestLaws`.
 -- Assumes nothing.
 use mathlib.Core.Bool.{Bool, cond}

@@ -1,27 +1,23 @@
--- Parity in J bytes in a row, anywhere in a word of any length: there is at most one choice, and with two or four bytes there is one.
+-- Parity in J bytes in a row, anywhere in a word of any length: there is at most one choice, and how its sums tell it.
 -- Assumes nothing.
 use mathlib.Core.Path.{_≡_, refl, sym, ap, ap₂, _∙_, subst}
-use mathlib.Core.List.{List, [], _∷_, _++_, map, append-nil}
+use mathlib.Core.List.{List, [], _∷_, _++_, append-nil}
 use Prim.Native.Nat.{ℕ, zero, suc, _+_, _*_, _%_, _≤_, _<_}
-use native.Mathlib.Decide.{ℕ-discrete}
 use native.Mathlib.Omega.{arith}
 use lib.Bits.{bitXor, xor-self}
-use lib.Dec.{T, eqb}
-use lib.ListN.{length, getD, replicate, length-replicate}
-use Rattle.outcome.specs.Bytes.{Bytes, bytes-nil, bytes-cons, bytes-append, bytes-replicate}
-use Rattle.outcome.specs.Table.{tabulated, length-tabulated, tabulated-at}
-use Rattle.xor.specs.Laws.{xor-cancel, xor-equal}
+use lib.ListN.{length, getD, replicate}
+use Rattle.outcome.specs.Bytes.{Bytes}
+use Rattle.xor.specs.Laws.{xor-cancel}
 use Rattle.field.specs.Field.{power, mul}
 use Rattle.field.specs.Linear.{mul-one-r}
 use Rattle.field.specs.Powers.{power-zero, power-mod}
-use Rattle.field.specs.Laws.{mul-lt, mul-nonzero, mul-power-add}
+use Rattle.field.specs.Laws.{mul-nonzero, mul-power-add}
 use Rattle.codeword.specs.Code.{sum, Codeword}
 use Rattle.codeword.specs.Sums.{times-0, sum-lt, sum-append, added, length-added, bytes-added, sum-part}
 use Rattle.codeword.specs.Changes.{unlike-le, changes-le}
-use Rattle.codeword.specs.Distance.{weight, distance, added-zero, same-sums}
+use Rattle.codeword.specs.Twist.{weight}
+use Rattle.codeword.specs.Distance.{distance, added-zero, same-sums}
 use Rattle.codeword.specs.Parity.{WithSums, Parity}
-use Rattle.codeword.specs.Forms.{Form, value, solves, solved}
-use Rattle.codeword.specs.Solve.{twoForms, two-solve, fourForms, four-solve}
 
 -- ---- at most one choice
 
@@ -53,9 +49,9 @@ parity-unique J a p q b k P Q = added-zero p q same (zeros ∙ ap (λ (n : ℕ).
     code : Codeword J (added p q)
     code j h =
         mul-nonzero (sum j (added p q)) (j * length b) (sum-lt j (added p q) hd)
-          (sym (ap (λ (x : ℕ). bitXor x (mul (sum j (added p q)) (power (j * length b)))) (P .code j h))
-           ∙ sym (sum-part j a p (added p q) b (P .bytes) hd (sym long))
-           ∙ ap (λ (l : List ℕ). sum j (a ++ (l ++ b))) (added-twice p q same) ∙ Q .code j h)
+        (sym (ap (λ (x : ℕ). bitXor x (mul (sum j (added p q)) (power (j * length b)))) (P .code j h))
+        ∙ sym (sum-part j a p (added p q) b (P .bytes) hd (sym long))
+        ∙ ap (λ (l : List ℕ). sum j (a ++ (l ++ b))) (added-twice p q same) ∙ Q .code j h)
 
     zeros : added p q ≡ replicate (length (added p q)) 0
     zeros = distance J (added p q) hd (omega (arith, P .long, long)) (omega (arith, P .long, long, weight-le (added p q))) code
@@ -73,7 +69,7 @@ parity-end-unique J a p q k P Q = parity-unique J a p q [] k (at-end p P) (at-en
 pub with-sums-unique : (t p q : List ℕ) → length t ≤ 255 → WithSums t p → WithSums t q → p ≡ q
 with-sums-unique t p q k P Q =
     same-sums (length t) p q (P .long ∙ sym (Q .long)) (omega (arith, P .long)) (P .bytes) (Q .bytes) (λ j h. P .sums j h ∙ sym (Q .sums j h))
-      (omega (arith, P .long, changes-le p q))
+    (omega (arith, P .long, changes-le p q))
 
 -- at the end: the sums of the parity are those of the word before it, moved up by the parity's length
 pub parity-behind : (w t p : List ℕ) → Bytes w → ((j : ℕ) → j < length t → getD t j 0 ≡ mul (sum j w) (power (j * length t))) → WithSums t p
@@ -83,9 +79,9 @@ parity-behind w t p h s P =
       long = P .long;
       bytes = P .bytes;
       code = λ j l.
-        sum-append j w p h
-        ∙ ap₂ bitXor (ap (λ (n : ℕ). mul (sum j w) (power (j * n))) (P .long) ∙ sym (s j l)) (P .sums j l)
-        ∙ xor-self (getD t j 0);
+          sum-append j w p h
+          ∙ ap₂ bitXor (ap (λ (n : ℕ). mul (sum j w) (power (j * n))) (P .long) ∙ sym (s j l)) (P .sums j l)
+          ∙ xor-self (getD t j 0);
     }
 
 -- two bytes at the end, as `parity_from_sums` gives them
@@ -107,66 +103,3 @@ parity-added J a p q b hp hq e s j l =
 pub power-back : (x i n : ℕ) → x < 256 → (i + n) % 255 ≡ 0 → mul (mul x (power i)) (power n) ≡ x
 power-back x i n h e =
     mul-power-add x i n h ∙ ap (mul x) (sym (power-mod (i + n)) ∙ ap power e ∙ power-zero) ∙ mul-one-r x
-
--- ---- there is a choice
-
-added-zeros : (n : ℕ) (q : List ℕ) → length q ≡ n → added (replicate n 0) q ≡ q
-unfolding added
-added-zeros zero [] e = refl
-added-zeros zero (y ∷ q) e = absurd (omega arith)
-added-zeros (suc n) [] e = absurd (omega arith)
-added-zeros (suc n) (y ∷ q) e = ap (λ (t : List ℕ). y ∷ t) (added-zeros n q (omega arith))
-
-bytes-tabulated : (f : ℕ → ℕ) (i n : ℕ) → ((k : ℕ) → f k < 256) → Bytes (tabulated f i n)
-bytes-tabulated f i zero h = bytes-nil
-bytes-tabulated f i (suc n) h = bytes-cons (f i) (tabulated f (suc i) n) (h i) (bytes-tabulated f (suc i) n h)
-
-module _ (fs : List Form) (s : T (solves fs)) (a b : List ℕ) (ha : Bytes a) (hb : Bytes b) where
-  -- the word with zeros where the parity is to stand
-  abbrev blank : List ℕ
-  blank = a ++ (replicate (length fs) 0 ++ b)
-
-  -- its sums, moved down by what comes after the parity
-  abbrev target : ℕ → ℕ
-  target j = mul (sum j blank) (power (254 * (j * length b)))
-
-  abbrev filled : List ℕ
-  filled = map (value (tabulated target 0 (length fs))) fs
-
-  blank-lt : (j : ℕ) → sum j blank < 256
-  blank-lt j =
-      sum-lt j blank
-        (bytes-append a (replicate (length fs) 0 ++ b) ha (bytes-append (replicate (length fs) 0) b (bytes-replicate (length fs) 0 (omega arith)) hb))
-
-  filled-sums : WithSums (tabulated target 0 (length fs)) filled
-  filled-sums =
-      solved fs (tabulated target 0 (length fs)) s
-        (bytes-tabulated target 0 (length fs) (λ j. mul-lt (sum j blank) (254 * (j * length b)) (blank-lt j)))
-        (length-tabulated target 0 (length fs))
-
-  parity-exists : (p : List ℕ) × Parity (length fs) p (a ++ (p ++ b))
-  parity-exists =
-      let t : List ℕ = tabulated target 0 (length fs) in
-      let n : length t ≡ length fs = length-tabulated target 0 (length fs) in
-      let l : length filled ≡ length fs = filled-sums .long ∙ n in
-      (filled,
-       record {
-         long = l;
-         bytes = filled-sums .bytes;
-         code =
-           subst (λ (p : List ℕ). Codeword (length fs) (a ++ (p ++ b))) (added-zeros (length fs) filled l)
-             (parity-added (length fs) a (replicate (length fs) 0) filled b (bytes-replicate (length fs) 0 (omega arith)) (filled-sums .bytes)
-               (length-replicate {A = ℕ} (length fs) 0 ∙ sym l)
-               (λ j h.
-               ap (λ (x : ℕ). mul x (power (j * length b))) (filled-sums .sums j (omega arith) ∙ tabulated-at target (length fs) j h)
-               ∙ power-back (sum j blank) (254 * (j * length b)) (j * length b) (blank-lt j) (omega arith)));
-       })
-
--- two bytes in a row, and four, between any a and b
-pub two-exist : (a b : List ℕ) → Bytes a → Bytes b → (p : List ℕ) × Parity 2 p (a ++ (p ++ b))
-unfolding twoForms
-two-exist = parity-exists twoForms two-solve
-
-pub four-exist : (a b : List ℕ) → Bytes a → Bytes b → (p : List ℕ) × Parity 4 p (a ++ (p ++ b))
-unfolding fourForms
-four-exist = parity-exists fourForms four-solve

@@ -1,5 +1,5 @@
--- Bytes with given sums. Bytes p with the sums t are the numbers before the powers of a polynomial that is t at 1, α, α², ..; Newton's
--- differences give it, and since the places are powers of α, one division a difference is enough.
+-- Bytes with given sums t: they are the numbers before the powers of x in the polynomial that is t at 1, α, α², .. . Newton's differences
+-- give it, and since the places are powers of α, one division for each order of difference is enough.
 -- Assumes nothing.
 use mathlib.Core.List.{List, [], _∷_}
 use lib.Dec.{T}
@@ -7,13 +7,13 @@ use Rattle.field.specs.Field.{timesAlpha, power, mul, mulBits}
 use Rattle.codeword.specs.Code.{sum}
 use Rattle.codeword.specs.Forms.{Form, byte, plus, alpha, times, solves}
 
--- ---- two bytes: (244) is the inverse of 1 + α
+-- ---- two bytes: 244 is the inverse of 1 + α
 
-abbrev line : Form
-line = times (plus (byte 0) (byte 1)) 244
+abbrev slope : Form
+slope = times (plus (byte 0) (byte 1)) 244
 
 unfoldable pub twoForms : List Form
-twoForms = line ∷ plus (byte 0) line ∷ []
+twoForms = slope ∷ plus (byte 0) slope ∷ []
 
 pub two-solve : T (solves twoForms)
 unfolding solves twoForms sum mul mulBits timesAlpha power
@@ -21,7 +21,7 @@ two-solve = tt
 
 -- ---- four bytes: 75 is the inverse of α(1 + α)(1 + α²), and 162 of α³(1 + α)(1 + α²)(1 + α³)
 
--- the differences of t, of those, and of those
+-- the differences of t, the differences of those, and their difference
 abbrev first0 : Form
 first0 = plus (byte 0) (byte 1)
 
@@ -37,21 +37,22 @@ second1 = plus (plus (byte 2) (byte 3)) (alpha first1)
 abbrev third : Form
 third = plus second1 (alpha (alpha second0))
 
--- t0 + (x + 1) (slope + (x + α) (bend + (x + α²) twist)), multiplied out from within
-abbrev twist : Form
-twist = times third 162
+-- the polynomial t0 + (x + 1) (first0 / .. + (x + α) (second0 / .. + (x + α²) lead)), multiplied out from within:
+-- lead x + inner, then lead x² + middle1 x + middle0
+abbrev lead : Form
+lead = times third 162
 
 abbrev inner : Form
-inner = plus (times second0 75) (alpha (alpha twist))
+inner = plus (times second0 75) (alpha (alpha lead))
 
 abbrev middle1 : Form
-middle1 = plus inner (alpha twist)
+middle1 = plus inner (alpha lead)
 
 abbrev middle0 : Form
 middle0 = plus (alpha inner) (times first0 244)
 
 unfoldable pub fourForms : List Form
-fourForms = twist ∷ plus middle1 twist ∷ plus middle0 middle1 ∷ plus middle0 (byte 0) ∷ []
+fourForms = lead ∷ plus middle1 lead ∷ plus middle0 middle1 ∷ plus middle0 (byte 0) ∷ []
 
 pub four-solve : T (solves fourForms)
 unfolding solves fourForms sum mul mulBits timesAlpha power

@@ -6,7 +6,7 @@ use Prim.Native.Nat.{ℕ, zero, suc, _+_, _*_, _<_, _≤_}
 use native.Mathlib.Nat.{zero-mul, mul-zero, mul-one, mul-add}
 use native.Mathlib.Numerals.{add-one}
 use native.Mathlib.Omega.{arith}
-use lib.Bits.{bitXor, xor-self, xor-zero-r, xor-lt}
+use lib.Bits.{bitXor, xor-zero-r, xor-lt}
 use lib.ListN.{length, getD, set, take, length-append, length-set}
 use lib.Seq.{take-suc, take-all}
 use Rattle.outcome.specs.Bytes.{Bytes, bytes-nil, bytes-cons, bytes-take}
@@ -40,9 +40,9 @@ unfolding sum
 sum-append j [] b h = sym (ap (λ (x : ℕ). bitXor x (sum j b)) (mul-zero-l (power (j * length b))))
 sum-append j (x ∷ a) b h =
     ap₂ bitXor
-      (ap (λ (n : ℕ). mul x (power (j * n))) (length-append a b) ∙ ap (λ (n : ℕ). mul x (power n)) (mul-add j (length a) (length b))
-       ∙ sym (mul-power-add x (j * length a) (j * length b) (h 0)))
-      (sum-append j a b (λ i. h (suc i)))
+    (ap (λ (n : ℕ). mul x (power (j * n))) (length-append a b) ∙ ap (λ (n : ℕ). mul x (power n)) (mul-add j (length a) (length b))
+    ∙ sym (mul-power-add x (j * length a) (j * length b) (h 0)))
+    (sum-append j a b (λ i. h (suc i)))
     ∙ sym (xor-assoc (mul (mul x (power (j * length a))) (power (j * length b))) (mul (sum j a) (power (j * length b))) (sum j b))
     ∙ ap (λ (y : ℕ). bitXor y (sum j b)) (sym (mul-xor (mul x (power (j * length a))) (sum j a) (power (j * length b))))
 
@@ -123,7 +123,7 @@ sum-front : (j : ℕ) (p q b : List ℕ) → Bytes p → Bytes q → length p �
 sum-front j p q b hp hq e =
     sum-append j (added p q) b (bytes-added p q hp hq)
     ∙ ap (λ (x : ℕ). bitXor x (sum j b))
-        (ap (λ (x : ℕ). mul x (power (j * length b))) (sum-added j p q e) ∙ mul-xor (sum j p) (sum j q) (power (j * length b)))
+    (ap (λ (x : ℕ). mul x (power (j * length b))) (sum-added j p q e) ∙ mul-xor (sum j p) (sum j q) (power (j * length b)))
     ∙ xor-right-comm (mul (sum j p) (power (j * length b))) (mul (sum j q) (power (j * length b))) (sum j b)
     ∙ ap (λ (x : ℕ). bitXor x (mul (sum j q) (power (j * length b)))) (sym (sum-append j p b hp))
 

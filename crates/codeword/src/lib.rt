@@ -1,5 +1,6 @@
 // Codewords over the field of 256 elements (Annex A, Annex C.7): the sums of a word, the verdict on it, and parity.
 mod parity;
+mod powers;
 mod sums;
 mod verdicts;
 

@@ -6,24 +6,27 @@ ghost use lib.ListN.{length, take, drop};
 ghost use Rattle.field.specs.Field.{power, mul};
 ghost use Rattle.codeword.specs.Pair.{pair};
 ghost use Rattle.codeword.specs.Parity.{Parity, WithSums};
-use crate::sums::{four_sums, two_sums, ALPHA_2};
 use crate::TwoBytes;
-use field::{product, times_alpha};
+use crate::powers::ALPHA_2;
+use crate::powers::ALPHA_4;
+use crate::powers::ALPHA_8;
+use crate::powers::ALPHA_12;
+use crate::powers::ALPHA_219;
+use crate::powers::ALPHA_231;
+use crate::powers::ALPHA_243;
+use crate::sums::four_sums;
+use crate::sums::two_sums;
+use field::product;
+use field::times_alpha;
 
-// The inverses of 1 + α, of α(1 + α)(1 + α²), and of α³(1 + α)(1 + α²)(1 + α³).
+// The inverse of 1 + α.
 const OVER_FIRST: u8 = 244;
+
+// The inverse of α(1 + α)(1 + α²).
 const OVER_SECOND: u8 = 75;
+
+// The inverse of α³(1 + α)(1 + α²)(1 + α³).
 const OVER_THIRD: u8 = 162;
-
-// α^4, α^8 and α^12: sum j of a word moves up by α^4j when four bytes come after it.
-const UP_4: u8 = 16;
-const UP_8: u8 = 29;
-const UP_12: u8 = 205;
-
-// α^-12, α^-24 and α^-36: it moves down when twelve bytes are left out after it.
-const DOWN_12: u8 = 125;
-const DOWN_24: u8 = 245;
-const DOWN_36: u8 = 86;
 
 // The two bytes of parity behind a word with the sums s0 and s1.
 pub fn parity_from_sums(s0: u8, s1: u8) -> TwoBytes
@@ -50,23 +53,29 @@ fn four_with_sums(t0: u8, t1: u8, t2: u8, t3: u8) -> [u8; 4]
     let second0 = first1 ^ times_alpha(first0);
     let second1 = t2 ^ t3 ^ times_alpha(first1);
     let third = second1 ^ times_alpha(times_alpha(second0));
-    let c3 = product(third, OVER_THIRD);
-    let c3_up = times_alpha(c3);
-    let inner = product(second0, OVER_SECOND) ^ times_alpha(c3_up);
-    let middle1 = inner ^ c3_up;
+    let lead = product(third, OVER_THIRD);
+    let lead_up = times_alpha(lead);
+    let inner = product(second0, OVER_SECOND) ^ times_alpha(lead_up);
+    let middle1 = inner ^ lead_up;
     let middle0 = times_alpha(inner) ^ product(first0, OVER_FIRST);
-    [c3, middle1 ^ c3, middle0 ^ middle1, middle0 ^ t0]
+    [lead, middle1 ^ lead, middle0 ^ middle1, middle0 ^ t0]
 }
 
-// The four bytes of parity behind a word: C1.
+// The four bytes of parity behind a word: C1. Sum j of the word moves up by α^4j when four bytes come after it.
 pub fn parity_at_end(w: &[u8]) -> [u8; 4]
     ensures { λ r. ⌜ Parity 4 r (now (w .entry) ++ r) ⌝ }
 {
     let s = four_sums(w);
-    four_with_sums(s[0], product(s[1], UP_4), product(s[2], UP_8), product(s[3], UP_12))
+    four_with_sums(
+        s[0],
+        product(s[1], ALPHA_4),
+        product(s[2], ALPHA_8),
+        product(s[3], ALPHA_12),
+    )
 }
 
-// The four bytes of parity between the first twelve bytes and the last twelve.
+// The four bytes of parity between the first twelve bytes and the last twelve. Those there are right but for four bytes whose sum j, moved
+// up by the α^12j of what comes after them, is that of the word.
 fn parity_amid(w: &[u8]) -> [u8; 4]
     requires { ⌜ length (now w) ≡ 28 ⌝ }
     ensures { λ r. ⌜ Parity 4 r (take 12 (now (w .entry)) ++ (r ++ drop 16 (now (w .entry)))) ⌝ }
@@ -74,9 +83,9 @@ fn parity_amid(w: &[u8]) -> [u8; 4]
     let s = four_sums(w);
     let q = four_with_sums(
         s[0],
-        product(s[1], DOWN_12),
-        product(s[2], DOWN_24),
-        product(s[3], DOWN_36),
+        product(s[1], ALPHA_243),
+        product(s[2], ALPHA_231),
+        product(s[3], ALPHA_219),
     );
     [w[12] ^ q[0], w[13] ^ q[1], w[14] ^ q[2], w[15] ^ q[3]]
 }

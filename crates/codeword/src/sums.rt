@@ -3,13 +3,12 @@ ghost use mathlib.Core.Path.{_≡_};
 ghost use Rattle.codeword.specs.Code.{sums};
 ghost use Rattle.codeword.specs.Pair.{pair};
 use crate::TwoBytes;
+use crate::powers::ALPHA;
+use crate::powers::ALPHA_2;
+use crate::powers::ALPHA_3;
 use field::product;
 
-// The first three powers of α.
-pub const ALPHA: u8 = 2;
-pub const ALPHA_2: u8 = 4;
-pub const ALPHA_3: u8 = 8;
-
+// Sums 0 and 1.
 pub fn two_sums(w: &[u8]) -> TwoBytes
     ensures { λ r. ⌜ pair r ≡ sums 2 (now (w .entry)) ⌝ }
 {
@@ -25,6 +24,7 @@ pub fn two_sums(w: &[u8]) -> TwoBytes
     TwoBytes(s0, s1)
 }
 
+// Sums 0 to 3.
 pub fn four_sums(w: &[u8]) -> [u8; 4]
     ensures { λ r. ⌜ r ≡ sums 4 (now (w .entry)) ⌝ }
 {

@@ -5,10 +5,18 @@ ghost use Prim.Native.Nat.{ℕ, _<_};
 ghost use lib.ListN.{length};
 ghost use Rattle.outcome.specs.First.{firstBelow};
 ghost use Rattle.codeword.specs.Nearest.{verdict};
-ghost use Rattle.codeword.specs.Fault.{fits, fault, cure};
-use crate::sums::{four_sums, two_sums, ALPHA, ALPHA_2, ALPHA_3};
-use crate::{Fault, Verdict};
+ghost use Rattle.codeword.specs.Fault.{cure, fault, faultAt, fits};
+use crate::Fault;
+use crate::Verdict;
+use crate::powers::ALPHA;
+use crate::powers::ALPHA_2;
+use crate::powers::ALPHA_3;
+use crate::sums::four_sums;
+use crate::sums::two_sums;
 use field::product;
+
+// The longest word that the codes can mend: below α^255 no two powers of α are equal.
+const LONGEST: usize = 255;
 
 // How many bytes come after the one that is wrong: the first m below k with s1 = s0 α^m, or k.
 fn after_of_two(s0: u8, s1: u8, k: usize) -> usize
@@ -50,11 +58,22 @@ fn after_of_four(s0: u8, s1: u8, s2: u8, s3: u8, k: usize) -> usize
     m
 }
 
+// The byte that m bytes come after is wrong by e, where a word of k bytes has it.
+fn fault_at(e: u8, k: usize, m: usize) -> Fault
+    ensures { λ r. ⌜ r ≡ faultAt e k m ⌝ }
+{
+    if m < k {
+        Fault::At(k - 1 - m, e)
+    } else {
+        Fault::Lost
+    }
+}
+
 // The fault of a word of k bytes with these first sums.
 pub fn fault_of_two(s0: u8, s1: u8, k: usize) -> Fault
     ensures { λ r. ⌜ r ≡ fault (s0 ∷ s1 ∷ []) k ⌝ }
 {
-    if 255 < k {
+    if LONGEST < k {
         return Fault::Lost;
     }
     if s0 == 0 {
@@ -62,12 +81,7 @@ pub fn fault_of_two(s0: u8, s1: u8, k: usize) -> Fault
             return Fault::Clean;
         }
     }
-    let m = after_of_two(s0, s1, k);
-    if m < k {
-        Fault::At(k - 1 - m, s0)
-    } else {
-        Fault::Lost
-    }
+    fault_at(s0, k, after_of_two(s0, s1, k))
 }
 
 pub fn fault_of_four(s: [u8; 4], k: usize) -> Fault
@@ -77,7 +91,7 @@ pub fn fault_of_four(s: [u8; 4], k: usize) -> Fault
     let s1 = s[1];
     let s2 = s[2];
     let s3 = s[3];
-    if 255 < k {
+    if LONGEST < k {
         return Fault::Lost;
     }
     if s0 == 0 {
@@ -89,12 +103,7 @@ pub fn fault_of_four(s: [u8; 4], k: usize) -> Fault
             }
         }
     }
-    let m = after_of_four(s0, s1, s2, s3, k);
-    if m < k {
-        Fault::At(k - 1 - m, s0)
-    } else {
-        Fault::Lost
-    }
+    fault_at(s0, k, after_of_four(s0, s1, s2, s3, k))
 }
 
 // What to do with a word that has this fault.

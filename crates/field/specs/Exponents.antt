@@ -11,11 +11,13 @@ use lib.Dec.{T, T-not, eqb, eqb→eq, eqb-refl}
 use Rattle.outcome.specs.Table.{allBelow, below, and-left, and-right}
 use Rattle.field.specs.Field.{timesAlpha, power}
 
+-- the power k places after the next one is that k + 1 places on
 later : (i k : ℕ) → suc i + k ≡ i + suc k
 later i k = suc-add i k ∙ sym (add-suc i k)
 
--- ---- none of the n powers from x on is 1
+-- ---- the order of α
 
+-- none of the n powers from x on is 1
 noneOne : ℕ → ℕ → Bool
 noneOne zero x = true
 noneOne (suc n) x = not (eqb x 1) && noneOne n (timesAlpha x)
@@ -30,17 +32,19 @@ none-one (suc n) i t (suc k) h e =
     none-one n (suc i) (and-right (not (eqb (power i) 1)) (noneOne n (timesAlpha (power i))) t) k (omega arith)
     (ap power (later i k) ∙ e)
 
--- α has the order 255
+-- no power of α from the first to the 254th is 1
 pub order : (k : ℕ) → k < 254 → power (suc k) ≡ 1 → ⊥
 unfolding noneOne power timesAlpha
 order k h e = none-one 254 1 tt k h (ap power (suc-add 0 k ∙ ap suc (zero-add k)) ∙ e)
 
--- ---- x is one of the n powers that stand in a list
+-- ---- the bytes that are powers
 
+-- the n powers from x on
 powersFrom : ℕ → ℕ → List ℕ
 powersFrom zero x = []
 powersFrom (suc n) x = x ∷ powersFrom n (timesAlpha x)
 
+-- x is one of them
 among : List ℕ → ℕ → Bool
 among [] x = false
 among (y ∷ ys) x = eqb y x || among ys x
@@ -52,9 +56,10 @@ found (suc n) i x t = pick (eqb (power i) x) (among (powersFrom n (timesAlpha (p
   where
     pick : (b rest : Bool) → eqb (power i) x ≡ b → T (b || rest) → (T rest → (k : ℕ) × (k < n) × (power (suc i + k) ≡ x))
         → (k : ℕ) × (k < suc n) × (power (i + k) ≡ x)
-    pick true rest e s later-on = (0, omega arith, ap power (add-zero i) ∙ eqb→eq (power i) x (rw e tt))
-    pick false rest e s later-on = let l = later-on s in (suc (l .0), omega arith, ap power (sym (later i (l .0))) ∙ l .2)
+    pick true rest e s further = (0, omega arith, ap power (add-zero i) ∙ eqb→eq (power i) x (rw e tt))
+    pick false rest e s further = let l = further s in (suc (l .0), omega arith, ap power (sym (later i (l .0))) ∙ l .2)
 
+-- the byte after x is one of the first 255
 amongFirst : ℕ → Bool
 amongFirst x = among (powersFrom 255 (power 0)) (suc x)
 
@@ -66,6 +71,6 @@ is-among : (x : ℕ) → x < 255 → T (among (powersFrom 255 (power 0)) (suc x)
 unfolding amongFirst
 is-among = below amongFirst 255 all-among
 
--- every byte but 0 is one of the first 255
+-- every byte but 0 has an exponent below 255
 pub exponent : (x : ℕ) → x < 255 → (n : ℕ) × (n < 255) × (power n ≡ suc x)
 exponent x h = let l = found 255 0 (suc x) (is-among x h) in (l .0, l .1, ap power (sym (zero-add (l .0))) ∙ l .2)

@@ -20,6 +20,7 @@ mul-comm a b ha hb =
     (λ i. byte-ind (λ y. mul (power i) y ≡ mul y (power i)) (mul-zero-r (power i) ∙ sym (mul-zero-l (power i)))
     (λ j. mul-power i j ∙ ap power (add-comm i j) ∙ sym (mul-power j i)) b hb) a ha
 
+-- times two powers, one after the other, is times the power of their sum
 pub mul-power-add : (x i j : ℕ) → x < 256 → mul (mul x (power i)) (power j) ≡ mul x (power (i + j))
 mul-power-add x i j h =
     byte-ind (λ y. mul (mul y (power i)) (power j) ≡ mul y (power (i + j)))
@@ -27,6 +28,7 @@ mul-power-add x i j h =
     (λ m. ap (λ (y : ℕ). mul y (power j)) (mul-power m i) ∙ mul-power (m + i) j ∙ ap power (add-assoc m i j) ∙ sym (mul-power m (i + j)))
     x h
 
+-- one power more is times α once more
 pub mul-power-suc : (x n : ℕ) → x < 256 → mul x (power (suc n)) ≡ timesAlpha (mul x (power n))
 mul-power-suc x n h =
     mul-comm x (power (suc n)) h (power-lt (suc n)) ∙ ap (λ (y : ℕ). mul y x) (power-suc n) ∙ mul-alpha (power n) x
@@ -39,11 +41,13 @@ mul-assoc a b c ha hb hc =
     (ap (λ (x : ℕ). mul x (power j)) (mul-zero-r a) ∙ mul-zero-l (power j) ∙ sym (ap (mul a) (mul-zero-l (power j)) ∙ mul-zero-r a))
     (λ i. mul-power-add a i j ha ∙ ap (mul a) (sym (mul-power i j))) b hb) c hc
 
+-- the last two of three factors change places
 pub mul-swap : (a b c : ℕ) → a < 256 → b < 256 → c < 256 → mul (mul a b) c ≡ mul (mul a c) b
 mul-swap a b c ha hb hc = mul-assoc a b c ha hb hc ∙ ap (mul a) (mul-comm b c hb hc) ∙ sym (mul-assoc a c b ha hc hb)
 
 -- ---- a product of bytes is a byte
 
+-- a byte times a power
 pub mul-lt : (x n : ℕ) → x < 256 → mul x (power n) < 256
 mul-lt x n h =
     byte-ind (λ y. mul y (power n) < 256) (omega (arith, mul-zero-l (power n)))
@@ -54,10 +58,12 @@ mul-byte a b ha hb = byte-ind (λ y. mul a y < 256) (omega (arith, mul-zero-r a)
 
 -- ---- no zero divisors
 
+-- only 0 times a power is 0
 pub mul-nonzero : (x n : ℕ) → x < 256 → mul x (power n) ≡ 0 → x ≡ 0
 mul-nonzero x n h =
     byte-ind (λ y. mul y (power n) ≡ 0 → y ≡ 0) (λ z. refl) (λ m z. absurd (power-nonzero (m + n) (sym (mul-power m n) ∙ z))) x h
 
+-- only 0 times a byte but 0 is 0
 pub mul-domain : (a b : ℕ) → a < 256 → b < 256 → (b ≡ 0 → ⊥) → mul a b ≡ 0 → a ≡ 0
 mul-domain a b ha hb = byte-ind (λ y. (y ≡ 0 → ⊥) → mul a y ≡ 0 → a ≡ 0) (λ n z. absurd (n refl)) (λ i n z. mul-nonzero a i ha z) b hb
 
@@ -76,6 +82,7 @@ mul-cancel x i j h n hi hj e = power-inj i j hi hj (mul-cancel-l x (power i) (po
 
 -- ---- inverses
 
+-- the inverse of α^i is α^(255-i)
 pub reciprocal : {a i : ℕ} → i < 255 → power i ≡ a → mul a (power ((255 - i) % 255)) ≡ 1
 reciprocal {a} {i} h p =
     ap (λ (x : ℕ). mul x (power ((255 - i) % 255))) (sym p)
@@ -84,6 +91,7 @@ reciprocal {a} {i} h p =
     ∙ (let e : i + (255 - i) ≡ 255 = omega arith in ap power e)
     ∙ power-255
 
+-- every byte but 0 has one
 pub inverse-exists : (a : ℕ) → a < 256 → (a ≡ 0 → ⊥) → (b : ℕ) × (b < 256) × (mul a b ≡ 1)
 inverse-exists a h n = pick (byte-cases a h)
   where

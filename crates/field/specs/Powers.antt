@@ -77,9 +77,11 @@ pub power-255 : power 255 ≡ 1
 unfolding power timesAlpha
 power-255 = refl
 
+-- the powers start again after 255
 pub power-period : (n : ℕ) → power (255 + n) ≡ power n
 power-period n = sym (mul-power 255 n) ∙ ap (λ (x : ℕ). mul x (power n)) power-255 ∙ mul-one-l (power n) (power-lt n)
 
+-- an exponent counts modulo 255
 pub power-mod : (n : ℕ) → power (n % 255) ≡ power n
 power-mod n = go (n / 255) (n % 255) ∙ ap power (div-add-mod' n 255)
   where
@@ -91,6 +93,7 @@ power-mod n = go (n / 255) (n % 255) ∙ ap power (div-add-mod' n 255)
 
 -- ---- no two below 255 are equal
 
+-- what is added to both exponents may be left out
 shift : (t i j : ℕ) → power (t + i) ≡ power (t + j) → power i ≡ power j
 shift zero i j e = sym (ap power (zero-add i)) ∙ e ∙ ap power (zero-add j)
 shift (suc t) i j e =

@@ -1,4 +1,4 @@
-// The field of 256 elements: times α, products and inverses of bytes. No step depends on a test of the data.
+// The field of 256 elements: times α, products and inverses of bytes. No branch depends on the data.
 ghost use mathlib.Core.Path.{_≡_};
 ghost use Rattle.field.specs.Field.{timesAlpha, mul};
 ghost use Rattle.field.specs.Inverse.{InverseOf};

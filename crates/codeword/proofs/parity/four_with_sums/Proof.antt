@@ -45,8 +45,8 @@ returns c =
     let c1 = c2 .before in
     let f = c1 .before .fits in
     four-solved _ _ _ _ (f .t0 .fits) (f .t1 .fits) (f .t2 .fits) (f .t3 .fits)
-      (c1 .times-alpha .ensures) (c2 .times-alpha2 .ensures) (c3 .times-alpha3 .ensures) (c4 .times-alpha4 .ensures) (c5 .before .product .ensures)
-      (c5 .times-alpha5 .ensures) (c6 .before .product2 .ensures) (c6 .times-alpha6 .ensures) (c .before .times-alpha7 .ensures) (c .product3 .ensures)
+    (c1 .times-alpha .ensures) (c2 .times-alpha2 .ensures) (c3 .times-alpha3 .ensures) (c4 .times-alpha4 .ensures) (c5 .before .product .ensures)
+    (c5 .times-alpha5 .ensures) (c6 .before .product2 .ensures) (c6 .times-alpha6 .ensures) (c .before .times-alpha7 .ensures) (c .product3 .ensures)
 
 pub four-with-sums-spec : {M : Type 1} → statement M
 four-with-sums-spec =

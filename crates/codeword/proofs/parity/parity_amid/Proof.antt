@@ -73,9 +73,9 @@ returns c =
     let bytes : Bytes w = λ i. f .before .shared-slice-known .given i .fits in
     let long = f .before .before .pre in
     subst (λ (r : List ℕ). Parity 4 r (take 12 w ++ (r ++ drop 16 w)))
-      (added-there w (f .four-sums .result) bytes (f .four-sums .ensures) long (q .four-with-sums .result) (q .four-with-sums .ensures .long))
-      (four-amid w (f .four-sums .result) bytes (f .four-sums .ensures) long (q .four-with-sums .result) (q .before .before .before .product .ensures)
-        (q .before .before .product2 .ensures) (q .before .product3 .ensures) (q .four-with-sums .ensures))
+    (added-there w (f .four-sums .result) bytes (f .four-sums .ensures) long (q .four-with-sums .result) (q .four-with-sums .ensures .long))
+    (four-amid w (f .four-sums .result) bytes (f .four-sums .ensures) long (q .four-with-sums .result) (q .before .before .before .product .ensures)
+    (q .before .before .product2 .ensures) (q .before .product3 .ensures) (q .four-with-sums .ensures))
 
 pub parity-amid-spec : {M : Type 1} → statement M
 parity-amid-spec =

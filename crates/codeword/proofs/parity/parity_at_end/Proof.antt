@@ -39,8 +39,8 @@ unfolding power timesAlpha
 returns c =
     let f = c .before .before .before .before in
     four-behind (f .before .before .args .w .now) (f .four-sums .result) (λ i. f .before .shared-slice-known .given i .fits) (f .four-sums .ensures)
-      (c .four-with-sums .result) (c .before .before .before .product .ensures) (c .before .before .product2 .ensures) (c .before .product3 .ensures)
-      (c .four-with-sums .ensures)
+    (c .four-with-sums .result) (c .before .before .before .product .ensures) (c .before .before .product2 .ensures) (c .before .product3 .ensures)
+    (c .four-with-sums .ensures)
 
 pub parity-at-end-spec : {M : Type 1} → statement M
 parity-at-end-spec =

@@ -1,7 +1,7 @@
 -- `codeword::parity::parity_from_sums` meets its contract: its two steps are those of `two-solved`.
 -- Assumes nothing.
 use borrow.Author.Needs.{needs}
-use mathlib.Core.Path.{_≡_, subst}
+use mathlib.Core.Path.{subst}
 use mathlib.Core.List.{[], _∷_}
 use Prim.Native.Nat.{ℕ}
 use native.Mathlib.Omega.{arith}
@@ -12,9 +12,6 @@ use Rattle.codeword.specs.Parity.{WithSums}
 use Rattle.codeword.proofs.Solved.{two-solved}
 use Rattle.codeword.proofs.parity.parity_from_sums.Statement.{statement}
 use Rattle.codeword.proofs.parity.parity_from_sums.Tie as tie
-use Rattle.codeword.proofs.parity.parity_from_sums.Reads as reads
-use Rattle.codeword.proofs.parity.parity_from_sums.Lts as lts
-use Rattle.field.proofs.product.Reads as product-reads
 
 product-requires : tie.Need-product-requires
 product-requires c κs = search needs
@@ -27,9 +24,9 @@ unfolding power timesAlpha
 returns c =
     let a = c .before .before in
     subst (λ (t : ℕ). WithSums (a .args .s0 ∷ t ∷ []) (c .product2 .result ∷ bitXor (a .args .s0) (c .product2 .result) ∷ []))
-      (c .before .product .ensures)
-      (two-solved (a .args .s0) (c .before .product .result) (a .fits .s0 .fits) (omega (arith, c .before .product .ensures, mul-lt (a .args .s1) 2 (a .fits .s1 .fits)))
-        (c .product2 .ensures))
+    (c .before .product .ensures)
+    (two-solved (a .args .s0) (c .before .product .result) (a .fits .s0 .fits) (omega (arith, c .before .product .ensures, mul-lt (a .args .s1) 2 (a .fits .s1 .fits)))
+    (c .product2 .ensures))
 
 pub parity-from-sums-spec : {M : Type 1} → statement M
 parity-from-sums-spec = tie.close (tie.spec product-requires product-requires-2 returns)

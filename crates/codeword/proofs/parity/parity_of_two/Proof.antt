@@ -22,8 +22,8 @@ returns : tie.Need-returns
 returns c =
     let k = c .before .before in
     parity-from-sums (k .before .args .w .now) (pair (c .parity-from-sums .result)) (λ i. k .shared-slice-known .given i .fits)
-      (subst (λ (s : List ℕ). WithSums (getD s 0 0 ∷ mul (getD s 1 0) (power 2) ∷ []) (pair (c .parity-from-sums .result)))
-        (c .before .two-sums .ensures) (c .parity-from-sums .ensures))
+    (subst (λ (s : List ℕ). WithSums (getD s 0 0 ∷ mul (getD s 1 0) (power 2) ∷ []) (pair (c .parity-from-sums .result)))
+    (c .before .two-sums .ensures) (c .parity-from-sums .ensures))
 
 pub parity-of-two-spec : {M : Type 1} → statement M
 parity-of-two-spec = tie.close (tie.spec two-sums-requires parity-from-sums-requires returns)

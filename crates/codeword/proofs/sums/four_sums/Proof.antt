@@ -1,7 +1,7 @@
 -- `codeword::sums::four_sums` meets its contract. After i bytes, s0 to s3 are the sums of those bytes; `sum-step` takes each one byte on.
 -- Assumes nothing.
 use borrow.Author.Needs.{needs}
-use mathlib.Core.Path.{_≡_, sym, ap₂, _∙_}
+use mathlib.Core.Path.{_≡_, sym, _∙_}
 use mathlib.Core.List.{[], _∷_}
 use Prim.Native.Nat.{ℕ, _≤_, _-_}
 use lib.ListN.{length, take}
@@ -11,9 +11,6 @@ use Rattle.codeword.specs.Code.{sum}
 use Rattle.codeword.specs.Sums.{sum-none, sum-step, sum-all, times-0}
 use Rattle.codeword.proofs.sums.four_sums.Statement.{statement}
 use Rattle.codeword.proofs.sums.four_sums.Tie as tie
-use Rattle.codeword.proofs.sums.four_sums.Reads as reads
-use Rattle.codeword.proofs.sums.four_sums.Lts as lts
-use Rattle.field.proofs.product.Reads as product-reads
 
 abbrev Inv-loop : tie.InvT-loop
 Inv-loop w s0₀ s1₀ s2₀ s3₀ i₀ s0 s1 s2 s3 i =
@@ -50,12 +47,13 @@ loop-again c =
     let l = b .before .before .loop in
     let w = b .before .before .before .before .args .w .now in
     let bytes : Bytes w = λ i. b .shared-slice-known2 .given i .fits in
-    let inside = b .before .loop-test .taken in
-    (search needs,
-     sum-step 0 w (l .i) bytes inside (l .inv .1) (sym (times-0 (l .s0))),
-     sum-step 1 w (l .i) bytes inside (l .inv .2) (c .before .before .product .ensures),
-     sum-step 2 w (l .i) bytes inside (l .inv .3) (c .before .product2 .ensures),
-     sum-step 3 w (l .i) bytes inside (l .inv .4) (c .product3 .ensures))
+    let inside = b .before .loop-test .taken in (
+      search needs,
+      sum-step 0 w (l .i) bytes inside (l .inv .1) (sym (times-0 (l .s0))),
+      sum-step 1 w (l .i) bytes inside (l .inv .2) (c .before .before .product .ensures),
+      sum-step 2 w (l .i) bytes inside (l .inv .3) (c .before .product2 .ensures),
+      sum-step 3 w (l .i) bytes inside (l .inv .4) (c .product3 .ensures),
+    )
 
 returns : tie.Need-returns Inv-loop μ-loop
 returns c =
@@ -63,8 +61,8 @@ returns c =
     let w = c .before .before .before .args .w .now in
     let end = c .loop-test .left in
     four
-      (l .inv .1 ∙ sum-all 0 w (l .i) end) (l .inv .2 ∙ sum-all 1 w (l .i) end)
-      (l .inv .3 ∙ sum-all 2 w (l .i) end) (l .inv .4 ∙ sum-all 3 w (l .i) end)
+    (l .inv .1 ∙ sum-all 0 w (l .i) end) (l .inv .2 ∙ sum-all 1 w (l .i) end)
+    (l .inv .3 ∙ sum-all 2 w (l .i) end) (l .inv .4 ∙ sum-all 3 w (l .i) end)
   where
     four : {a b c d a' b' c' d' : ℕ} → a ≡ a' → b ≡ b' → c ≡ c' → d ≡ d' → a ∷ b ∷ c ∷ d ∷ [] ≡ a' ∷ b' ∷ c' ∷ d' ∷ []
     four p q r s = cc

@@ -11,9 +11,6 @@ use Rattle.codeword.specs.Code.{sum}
 use Rattle.codeword.specs.Sums.{sum-none, sum-step, sum-all, times-0}
 use Rattle.codeword.proofs.sums.two_sums.Statement.{statement}
 use Rattle.codeword.proofs.sums.two_sums.Tie as tie
-use Rattle.codeword.proofs.sums.two_sums.Reads as reads
-use Rattle.codeword.proofs.sums.two_sums.Lts as lts
-use Rattle.field.proofs.product.Reads as product-reads
 
 abbrev Inv-loop : tie.InvT-loop
 Inv-loop w s0₀ s1₀ i₀ s0 s1 i = (i ≤ length w) × (s0 ≡ sum 0 (take i w)) × (s1 ≡ sum 1 (take i w))
@@ -41,10 +38,11 @@ unfolding power timesAlpha
 loop-again c =
     let l = c .before .before .before .loop in
     let w = c .before .before .before .before .before .args .w .now in
-    let bytes : Bytes w = λ i. c .before .shared-slice-known2 .given i .fits in
-    (search needs,
-     sum-step 0 w (l .i) bytes (c .before .before .loop-test .taken) (l .inv .1) (sym (times-0 (l .s0))),
-     sum-step 1 w (l .i) bytes (c .before .before .loop-test .taken) (l .inv .2) (c .product .ensures))
+    let bytes : Bytes w = λ i. c .before .shared-slice-known2 .given i .fits in (
+      search needs,
+      sum-step 0 w (l .i) bytes (c .before .before .loop-test .taken) (l .inv .1) (sym (times-0 (l .s0))),
+      sum-step 1 w (l .i) bytes (c .before .before .loop-test .taken) (l .inv .2) (c .product .ensures),
+    )
 
 returns : tie.Need-returns Inv-loop μ-loop
 returns c =

@@ -12,9 +12,6 @@ use Rattle.codeword.specs.Fault.{fits}
 use Rattle.codeword.proofs.Search.{Passed, passed-none, passed-more, found-here, found-none, weighted-none, weighted-more, fits-four, fits-not}
 use Rattle.codeword.proofs.verdicts.after_of_four.Statement.{statement}
 use Rattle.codeword.proofs.verdicts.after_of_four.Tie as tie
-use Rattle.codeword.proofs.verdicts.after_of_four.Reads as reads
-use Rattle.codeword.proofs.verdicts.after_of_four.Lts as lts
-use Rattle.field.proofs.product.Reads as product-reads
 
 abbrev Inv-loop : tie.InvT-loop
 Inv-loop s0 s1 s2 s3 k t1₀ t2₀ t3₀ m₀ t1 t2 t3 m =
@@ -31,7 +28,7 @@ returns c =
     let b = c .before .before in
     let l = b .before .before .loop in
     found-here (l .inv .0) (b .before .loop-test .taken)
-      (fits-four _ _ _ _ (l .m) (l .inv .1) (l .inv .2) (l .inv .3) (b .if1 .taken) (c .before .if2 .taken) (c .if3 .taken))
+    (fits-four _ _ _ _ (l .m) (l .inv .1) (l .inv .2) (l .inv .3) (b .if1 .taken) (c .before .if2 .taken) (c .if3 .taken))
 
 product-requires : tie.Need-product-requires Inv-loop μ-loop
 product-requires c κs = search needs
@@ -53,15 +50,16 @@ unfolding power timesAlpha
 loop-again c =
     let j = c .before .before .before in
     let l = j .before .before .loop in
-    let a = j .before .before .before .args in
-    (passed-more (l .inv .0) (j .before .loop-test .taken)
-       (⊎-elim (λ p. fits-not (a .s0 ∷ a .s1 ∷ a .s2 ∷ a .s3 ∷ []) (l .m) 3 (omega arith) (l .inv .3) (p .2 .left))
-         (⊎-elim (λ p. fits-not (a .s0 ∷ a .s1 ∷ a .s2 ∷ a .s3 ∷ []) (l .m) 2 (omega arith) (l .inv .2) (p .1 .left))
-           (λ p. fits-not (a .s0 ∷ a .s1 ∷ a .s2 ∷ a .s3 ∷ []) (l .m) 1 (omega arith) (l .inv .1) (p .left)))
-         (j .if1 .came)),
-     weighted-more 1 (l .m) (a .s0) (search needs) (l .inv .1) (c .before .before .product .ensures),
-     weighted-more 2 (l .m) (a .s0) (search needs) (l .inv .2) (c .before .product2 .ensures),
-     weighted-more 3 (l .m) (a .s0) (search needs) (l .inv .3) (c .product3 .ensures))
+    let a = j .before .before .before .args in (
+      passed-more (l .inv .0) (j .before .loop-test .taken)
+          (⊎-elim (λ p. fits-not (a .s0 ∷ a .s1 ∷ a .s2 ∷ a .s3 ∷ []) (l .m) 3 (omega arith) (l .inv .3) (p .2 .left))
+          (⊎-elim (λ p. fits-not (a .s0 ∷ a .s1 ∷ a .s2 ∷ a .s3 ∷ []) (l .m) 2 (omega arith) (l .inv .2) (p .1 .left))
+          (λ p. fits-not (a .s0 ∷ a .s1 ∷ a .s2 ∷ a .s3 ∷ []) (l .m) 1 (omega arith) (l .inv .1) (p .left)))
+          (j .if1 .came)),
+      weighted-more 1 (l .m) (a .s0) (search needs) (l .inv .1) (c .before .before .product .ensures),
+      weighted-more 2 (l .m) (a .s0) (search needs) (l .inv .2) (c .before .product2 .ensures),
+      weighted-more 3 (l .m) (a .s0) (search needs) (l .inv .3) (c .product3 .ensures),
+    )
 
 returns-2 : tie.Need-returns-2 Inv-loop μ-loop
 returns-2 c = found-none (c .before .loop .inv .0) (c .loop-test .left)

@@ -10,9 +10,6 @@ use Rattle.codeword.specs.Fault.{fits}
 use Rattle.codeword.proofs.Search.{Passed, passed-none, passed-more, found-here, found-none, weighted-none, weighted-more, fits-two, fits-not}
 use Rattle.codeword.proofs.verdicts.after_of_two.Statement.{statement}
 use Rattle.codeword.proofs.verdicts.after_of_two.Tie as tie
-use Rattle.codeword.proofs.verdicts.after_of_two.Reads as reads
-use Rattle.codeword.proofs.verdicts.after_of_two.Lts as lts
-use Rattle.field.proofs.product.Reads as product-reads
 
 abbrev Inv-loop : tie.InvT-loop
 Inv-loop s0 s1 k t1₀ m₀ t1 m = Passed (fits (s0 ∷ s1 ∷ [])) k m × (t1 ≡ mul s0 (power (1 * m)))
@@ -41,9 +38,10 @@ loop-again : tie.Need-loop-again Inv-loop μ-loop
 unfolding power timesAlpha
 loop-again c =
     let l = c .before .before .before .loop in
-    let a = c .before .before .before .before .args in
-    (passed-more (l .inv .0) (c .before .before .loop-test .taken) (fits-not (a .s0 ∷ a .s1 ∷ []) (l .m) 1 (omega arith) (l .inv .1) (c .before .if1 .left)),
-     weighted-more 1 (l .m) (a .s0) (search needs) (l .inv .1) (c .product .ensures))
+    let a = c .before .before .before .before .args in (
+      passed-more (l .inv .0) (c .before .before .loop-test .taken) (fits-not (a .s0 ∷ a .s1 ∷ []) (l .m) 1 (omega arith) (l .inv .1) (c .before .if1 .left)),
+      weighted-more 1 (l .m) (a .s0) (search needs) (l .inv .1) (c .product .ensures),
+    )
 
 returns-2 : tie.Need-returns-2 Inv-loop μ-loop
 returns-2 c = found-none (c .before .loop .inv .0) (c .loop-test .left)

@@ -6,8 +6,6 @@ use mathlib.Core.Path.{sym, ap}
 use Rattle.codeword.specs.Fault.{cure}
 use Rattle.codeword.proofs.verdicts.cured.Statement.{statement}
 use Rattle.codeword.proofs.verdicts.cured.Tie as tie
-use Rattle.codeword.proofs.verdicts.cured.Reads as reads
-use Rattle.codeword.proofs.verdicts.cured.Lts as lts
 
 enum-told : tie.Need-enum-told
 enum-told c = search needs

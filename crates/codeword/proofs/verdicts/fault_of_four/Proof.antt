@@ -5,18 +5,16 @@ use borrow.Author.Needs.{needs}
 use mathlib.Core.Path.{_≡_, sym, ap, _∙_}
 use mathlib.Core.Bool.{false}
 use mathlib.Core.Logic.{⊎-elim}
-use mathlib.Core.List.{List, [], _∷_}
+use mathlib.Core.List.{List}
 use Prim.Native.Nat.{ℕ}
 use native.Mathlib.Omega.{arith}
 use lib.ListN.{length}
 use Rattle.outcome.specs.First.{firstBelow}
 use Rattle.codeword.specs.Fault.{allZero, fits}
-use Rattle.codeword.proofs.Faults.{four-listed, not-zero, zero-four, fault-long, fault-none, fault-here, fault-nowhere}
+use Rattle.codeword.proofs.Listed.{four-listed}
+use Rattle.codeword.proofs.Faults.{not-zero, zero-four, fault-long, fault-none, fault-found}
 use Rattle.codeword.proofs.verdicts.fault_of_four.Statement.{statement}
 use Rattle.codeword.proofs.verdicts.fault_of_four.Tie as tie
-use Rattle.codeword.proofs.verdicts.fault_of_four.Reads as reads
-use Rattle.codeword.proofs.verdicts.fault_of_four.Lts as lts
-use Rattle.codeword.proofs.verdicts.after_of_four.Reads as after-of-four-reads
 
 long : (c : tie.Start) → length (c .args .t1) ≡ 4
 long c = search needs
@@ -41,38 +39,30 @@ returns-2 c =
     let b = c .before .before .before in
     let start = b .before .before in
     fault-none _ _ (b .before .if1 .left)
-      (ap allZero (four-listed _ (long start)) ∙ zero-four _ _ _ _ (b .if2 .taken) (c .before .before .if3 .taken) (c .before .if4 .taken) (c .if5 .taken))
+    (ap allZero (four-listed _ (long start)) ∙ zero-four _ _ _ _ (b .if2 .taken) (c .before .before .if3 .taken) (c .before .if4 .taken) (c .if5 .taken))
 
 after-of-four-requires : tie.Need-after-of-four-requires
 after-of-four-requires c κs = search needs
-
-sub-t23 : tie.Need-sub-t23
-sub-t23 c = search needs
-
-sub-t24 : tie.Need-sub-t24
-sub-t24 c = search needs
 
 unclean : (c : tie.Joined2) → allZero (c .before .before .args .t1) ≡ false
 unclean c =
     let l = long (c .before .before) in
     ⊎-elim (λ p. not-zero _ 3 (omega arith) (p .3 .left))
-      (⊎-elim (λ p. not-zero _ 2 (omega arith) (p .2 .left))
-        (⊎-elim (λ p. not-zero _ 1 (omega arith) (p .1 .left)) (λ p. not-zero _ 0 (omega arith) (p .left)))) (c .if2 .came)
+    (⊎-elim (λ p. not-zero _ 2 (omega arith) (p .2 .left))
+    (⊎-elim (λ p. not-zero _ 1 (omega arith) (p .1 .left)) (λ p. not-zero _ 0 (omega arith) (p .left)))) (c .if2 .came)
 
 first : (c : tie.After-after-of-four) → c .after-of-four .result ≡ firstBelow (fits (c .before .before .before .args .t1)) (c .before .before .before .args .k)
 first c =
     c .after-of-four .ensures
     ∙ ap (λ (s : List ℕ). firstBelow (fits s) (c .before .before .before .args .k)) (sym (four-listed _ (long (c .before .before .before))))
 
+fault-at-requires : tie.Need-fault-at-requires
+fault-at-requires c κs = search needs
+
 returns-3 : tie.Need-returns-3
 returns-3 c =
     let j = c .before .before in
-    fault-here _ _ (j .before .if1 .left) (unclean j) (first (c .before)) (c .if6 .taken)
-
-returns-4 : tie.Need-returns-4
-returns-4 c =
-    let j = c .before .before in
-    fault-nowhere _ _ (j .before .if1 .left) (unclean j) (first (c .before)) (c .if6 .left)
+    fault-found _ _ (j .before .if1 .left) (unclean j) (first (c .before)) (c .fault-at .ensures)
 
 pub fault-of-four-spec : {M : Type 1} → statement M
 fault-of-four-spec =
@@ -85,7 +75,5 @@ fault-of-four-spec =
     returns
     returns-2
     after-of-four-requires
-    sub-t23
-    sub-t24
-    returns-3
-    returns-4)
+    fault-at-requires
+    returns-3)

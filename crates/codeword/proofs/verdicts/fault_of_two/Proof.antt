@@ -7,12 +7,9 @@ use mathlib.Core.Logic.{⊎-elim}
 use mathlib.Core.List.{[], _∷_}
 use native.Mathlib.Omega.{arith}
 use Rattle.codeword.specs.Fault.{allZero}
-use Rattle.codeword.proofs.Faults.{not-zero, zero-two, fault-long, fault-none, fault-here, fault-nowhere}
+use Rattle.codeword.proofs.Faults.{not-zero, zero-two, fault-long, fault-none, fault-found}
 use Rattle.codeword.proofs.verdicts.fault_of_two.Statement.{statement}
 use Rattle.codeword.proofs.verdicts.fault_of_two.Tie as tie
-use Rattle.codeword.proofs.verdicts.fault_of_two.Reads as reads
-use Rattle.codeword.proofs.verdicts.fault_of_two.Lts as lts
-use Rattle.codeword.proofs.verdicts.after_of_two.Reads as after-of-two-reads
 
 returns : tie.Need-returns
 returns c = fault-long _ _ (c .if1 .taken)
@@ -23,25 +20,16 @@ returns-2 c = fault-none _ _ (c .before .before .if1 .left) (zero-two _ _ (c .be
 after-of-two-requires : tie.Need-after-of-two-requires
 after-of-two-requires c κs = search needs
 
-sub-t8 : tie.Need-sub-t8
-sub-t8 c = search needs
-
-sub-t9 : tie.Need-sub-t9
-sub-t9 c = search needs
-
 unclean : (c : tie.Joined2) → allZero (c .before .before .args .s0 ∷ c .before .before .args .s1 ∷ []) ≡ false
 unclean c = ⊎-elim (λ p. not-zero _ 1 (omega arith) (p .1 .left)) (λ p. not-zero _ 0 (omega arith) (p .left)) (c .if2 .came)
+
+fault-at-requires : tie.Need-fault-at-requires
+fault-at-requires c κs = search needs
 
 returns-3 : tie.Need-returns-3
 returns-3 c =
     let j = c .before .before in
-    fault-here _ _ (j .before .if1 .left) (unclean j) (c .before .after-of-two .ensures) (c .if4 .taken)
-
-returns-4 : tie.Need-returns-4
-returns-4 c =
-    let j = c .before .before in
-    fault-nowhere _ _ (j .before .if1 .left) (unclean j) (c .before .after-of-two .ensures) (c .if4 .left)
+    fault-found _ _ (j .before .if1 .left) (unclean j) (c .before .after-of-two .ensures) (c .fault-at .ensures)
 
 pub fault-of-two-spec : {M : Type 1} → statement M
-fault-of-two-spec =
-    tie.close (tie.spec returns returns-2 after-of-two-requires sub-t8 sub-t9 returns-3 returns-4)
+fault-of-two-spec = tie.close (tie.spec returns returns-2 after-of-two-requires fault-at-requires returns-3)
