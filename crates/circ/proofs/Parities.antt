@@ -10,7 +10,8 @@ use Rattle.outcome.specs.Bytes.{Bytes}
 use Rattle.codeword.specs.Parity.{Parity}
 use Rattle.codeword.specs.ParityLaws.{parity-unique, parity-end-unique}
 use Rattle.circ.specs.Chains.{withQ, withP}
-use Rattle.circ.specs.Codes.{qOf, pOf, q-parity, p-parity}
+use Rattle.circ.specs.Codes.{qOf, pOf}
+use Rattle.circ.specs.CodeLaws.{q-parity, p-parity}
 
 -- a list of four bytes
 four : (q : List ℕ) → length q ≡ 4 → getD q 0 0 ∷ getD q 1 0 ∷ getD q 2 0 ∷ getD q 3 0 ∷ [] ≡ q

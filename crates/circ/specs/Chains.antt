@@ -39,10 +39,6 @@ module _ (q p : List ℕ → List ℕ) where
   unfoldable pub c1Word : (ℕ → List ℕ) → ℕ → List ℕ
   c1Word f n = withP p (outAt between (λ m. c2Word f m) n)
 
--- the C1 word that a reader of the frames g meets at step n, as it comes in
-unfoldable pub metC1 : (ℕ → List ℕ) → ℕ → List ℕ
-metC1 g n = outAt readerBeforeC1 (λ m. inverted (g m)) n
-
 -- C1 hands on the 28 rows of its word that are no P bytes; fix is what becomes of the word
 unfoldable pub throughC1 : (List ℕ → List ℕ) → List ℕ → List ℕ
 throughC1 fix w = take 28 (fix w)
@@ -50,6 +46,13 @@ throughC1 fix w = take 28 (fix w)
 -- C2 hands on what becomes of its word, with the word's mark in rows 28 and 29
 unfoldable pub throughC2 : (List ℕ → List ℕ) → (List ℕ → ℕ) → List ℕ → List ℕ
 throughC2 fix mark w = fix w ++ (mark w ∷ mark w ∷ [])
+
+-- the C1 word that a reader of the frames g meets at step n, and the C2 word
+unfoldable pub metC1 : (ℕ → List ℕ) → ℕ → List ℕ
+metC1 g n = outAt readerBeforeC1 (λ m. inverted (g m)) n
+
+unfoldable pub metC2 : (List ℕ → List ℕ) → (ℕ → List ℕ) → ℕ → List ℕ
+metC2 fix₁ g n = outAt readerBetween (λ m. throughC1 fix₁ (metC1 g m)) n
 
 module _ (fix₁ fix₂ : List ℕ → List ℕ) (mark : List ℕ → ℕ) where
   -- the rows that a reader with the store s gives for an F2-frame

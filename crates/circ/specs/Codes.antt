@@ -1,22 +1,16 @@
 -- The two codes of CIRC (Annex C.7): C2 and C1 are codewords of four sums; reading hands on the codeword near a word, if there is one.
 -- Assumes nothing.
-use mathlib.Core.Path.{_≡_, refl, ap, ap₂, subst}
-use mathlib.Core.List.{List, [], _∷_, _++_, map, append-nil}
+use mathlib.Core.Path.{_≡_, refl, ap₂, subst}
+use mathlib.Core.List.{List, [], _∷_, _++_, map}
 use mathlib.Core.Option.{Option, none, some}
-use Prim.Native.Nat.{ℕ, zero, suc, _%_, _≤_}
+use Prim.Native.Nat.{ℕ, zero, suc, _%_}
 use native.Mathlib.Nat.{mod-eq-of-lt}
 use native.Mathlib.Omega.{arith}
 use lib.ListN.{length, take, drop}
-use Rattle.outcome.specs.Bytes.{Bytes, bytes-take, bytes-drop, bytes-nil}
-use Rattle.codeword.specs.Code.{Codeword}
+use Rattle.outcome.specs.Bytes.{Bytes}
 use Rattle.codeword.specs.Nearest.{nearest}
-use Rattle.codeword.specs.NearestLaws.{nearest-complete}
-use Rattle.codeword.specs.Changes.{changes-self}
-use Rattle.codeword.specs.Distance.{sum-zeros}
 use Rattle.codeword.specs.Parity.{Parity}
-use Rattle.codeword.specs.ParityLaws.{four-exist}
-use Rattle.circ.specs.Chains.{withQ, withP}
-use Rattle.circ.specs.Coding.{Coding, Correcting}
+use Rattle.codeword.specs.ParityExists.{four-exist}
 
 -- each element as a byte: a list of bytes as it is
 unfoldable asBytes : List ℕ → List ℕ
@@ -39,6 +33,21 @@ parity a b = four-exist (asBytes a) (asBytes b) (bytes-as a) (bytes-as b)
 
 pub parityBetween : List ℕ → List ℕ → List ℕ
 parityBetween a b = parity a b .0
+
+-- the parity of bytes makes a codeword
+pub parity-right : (a b : List ℕ) → Bytes a → Bytes b → Parity 4 (parityBetween a b) (a ++ (parityBetween a b ++ b))
+unfolding parityBetween
+parity-right a b ha hb =
+    subst (λ (t : List ℕ). Parity 4 (parity a b .0) (t ++ (parity a b .0 ++ b))) (as-is a ha)
+    (subst (λ (t : List ℕ). Parity 4 (parity a b .0) (asBytes a ++ (parity a b .0 ++ t))) (as-is b hb) (parity a b .1))
+
+pub four-bytes : (a b : List ℕ) → length (parityBetween a b) ≡ 4
+unfolding parityBetween
+four-bytes a b = parity a b .1 .long
+
+pub bytes-parity : (a b : List ℕ) → Bytes (parityBetween a b)
+unfolding parityBetween
+bytes-parity a b = parity a b .1 .bytes
 
 -- the Q bytes of a C2 word, rows 12 to 15 of its 28
 unfoldable pub qOf : List ℕ → List ℕ
@@ -63,56 +72,3 @@ corrected w = handedOn w (nearest 4 w)
 
 unfoldable pub lost : List ℕ → ℕ
 lost w = markOf (nearest 4 w)
-
--- ---- they are as the laws over streams ask
-
--- the parity of bytes makes a codeword
-pub parity-right : (a b : List ℕ) → Bytes a → Bytes b → Parity 4 (parityBetween a b) (a ++ (parityBetween a b ++ b))
-unfolding parityBetween
-parity-right a b ha hb =
-    subst (λ (t : List ℕ). Parity 4 (parity a b .0) (t ++ (parity a b .0 ++ b))) (as-is a ha)
-    (subst (λ (t : List ℕ). Parity 4 (parity a b .0) (asBytes a ++ (parity a b .0 ++ t))) (as-is b hb) (parity a b .1))
-
-four-bytes : (a b : List ℕ) → length (parityBetween a b) ≡ 4
-unfolding parityBetween
-four-bytes a b = parity a b .1 .long
-
-bytes-parity : (a b : List ℕ) → Bytes (parityBetween a b)
-unfolding parityBetween
-bytes-parity a b = parity a b .1 .bytes
-
--- the Q bytes and the P bytes are the parity of their words
-pub q-parity : (w : List ℕ) → Bytes w → Parity 4 (qOf w) (withQ qOf w)
-unfolding qOf withQ
-q-parity w h = parity-right (take 12 w) (drop 16 w) (bytes-take 12 w h) (bytes-drop 16 w h)
-
-pub p-parity : (w : List ℕ) → Bytes w → Parity 4 (pOf w) (withP pOf w)
-unfolding pOf withP
-p-parity w h = subst (λ (t : List ℕ). Parity 4 (parityBetween w []) (w ++ t)) (append-nil (parityBetween w [])) (parity-right w [] h bytes-nil)
-
-pub circ-coding : Coding (Codeword 4) qOf pOf
-unfolding qOf pOf
-circ-coding =
-    record {
-      four-q = λ w. four-bytes (take 12 w) (drop 16 w);
-      four-p = λ w. four-bytes w [];
-      bytes-q = λ w h. bytes-parity (take 12 w) (drop 16 w);
-      bytes-p = λ w h. bytes-parity w [];
-      code-q = λ w e h. q-parity w h .code;
-      code-p = λ w e h. p-parity w h .code;
-    }
-
--- a codeword is near itself
-pub codeword-found : (w : List ℕ) → length w ≤ 255 → Bytes w → Codeword 4 w → nearest 4 w ≡ some w
-codeword-found w k h c =
-    nearest-complete 4 w h (omega arith) k w (record { long = refl; bytes = h; close = omega (arith, changes-self w); code = c })
-
-pub circ-correcting : Correcting (Codeword 4) corrected corrected lost
-unfolding corrected lost
-circ-correcting =
-    record {
-      zeros = λ n j h. sum-zeros j n;
-      keeps₁ = λ w e h c. ap (handedOn w) (codeword-found w (omega arith) h c);
-      keeps₂ = λ w e h c. ap (handedOn w) (codeword-found w (omega arith) h c);
-      sure = λ w e h c. ap markOf (codeword-found w (omega arith) h c);
-    }

@@ -13,7 +13,8 @@ use Rattle.lines.specs.Back.{back-later}
 use Rattle.lines.specs.Section.{length-out, bytes-out}
 use Rattle.circ.specs.Rows.{readerBeforeC1, inverted}
 use Rattle.circ.specs.Chains.{metC1}
-use Rattle.circ.specs.Codes.{qOf, pOf, corrected, handedOn, circ-coding, circ-correcting}
+use Rattle.circ.specs.Codes.{qOf, pOf, corrected, handedOn}
+use Rattle.circ.specs.CodeLaws.{circ-coding, circ-correcting}
 use Rattle.circ.specs.Tables.{length-inverted, bytes-inverted}
 use Rattle.circ.specs.Mended.{lateC1, length-late, bytes-late, code-late, mended-back, mended-sure}
 use Rattle.circ.specs.ThereAndBack.{met}

@@ -13,7 +13,8 @@ use Rattle.lines.specs.Delay.{total}
 use Rattle.lines.specs.Zeros.{zeros, chain-zeros, chain-stays}
 use Rattle.circ.specs.Rows.{placed, collected, doubt, beforeC2, between, afterC1, readerBeforeC1, readerBetween, readerAfterC2, mask, inverted}
 use Rattle.circ.specs.Chains.{withQ, withP, writerOut, writerNext, throughC1, throughC2, readerRows, readerOut, readerDoubt, readerNext}
-use Rattle.circ.specs.Codes.{parity-right, qOf, pOf, corrected, lost, circ-correcting}
+use Rattle.circ.specs.Codes.{parity-right, qOf, pOf, corrected, lost}
+use Rattle.circ.specs.CodeLaws.{circ-correcting}
 
 -- ---- zeros are the parity of zeros
 

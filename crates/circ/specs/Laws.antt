@@ -11,11 +11,13 @@ use Rattle.lines.specs.Delay.{total}
 use Rattle.lines.specs.Stream.{back}
 use Rattle.lines.specs.Back.{back-later, back-before}
 use Rattle.lines.specs.Chain.{chainAt}
-use Rattle.circ.specs.Rows.{rowsOfBytes, rowDelay, beforeC2, between, afterC1, readerBeforeC1, readerBetween, readerAfterC2}
-use Rattle.circ.specs.Chains.{writerAt, writerNext, written, c2Word, c1Word, readerAt, readerNext, readerOut, readerDoubt}
-use Rattle.circ.specs.Codes.{qOf, pOf, corrected, lost, circ-coding, circ-correcting}
+use Rattle.circ.specs.Rows.{rowsOfBytes, rowDelay, beforeC2, between, afterC1, readerBeforeC1, readerBetween, readerAfterC2, either}
+use Rattle.circ.specs.Chains.{writerAt, writerNext, written, c2Word, c1Word, readerAt, readerNext, readerOut, readerDoubt, metC2}
+use Rattle.circ.specs.Codes.{qOf, pOf, corrected, lost}
+use Rattle.circ.specs.CodeLaws.{circ-coding, circ-correcting, length-corrected}
 use Rattle.circ.specs.Writing as writing
 use Rattle.circ.specs.Written as rows
+use Rattle.circ.specs.ReadRows as received
 use Rattle.circ.specs.ThereAndBack as reading
 
 -- F1-frames: 24 bytes at each step
@@ -84,3 +86,15 @@ module _ (f : ℕ → List ℕ) (frames : F1Frames f) where
 
   pub without-doubt : (n : ℕ) → doubtAt (λ m. f2At f m) n ≡ 0
   without-doubt n = reading.without-doubt circ-coding circ-correcting f (frames .long) (frames .bytes) n
+
+-- ---- any F2-frames
+
+module _ (g : ℕ → List ℕ) (long : (n : ℕ) → length (g n) ≡ 32) where
+  -- F1 byte b of step n: of the C2 word of that step where its row does not wait after C2, else of the one two steps before
+  pub byte-of-c2 : (b n : ℕ) → b < 24
+      → getD (f1At g n) b 0 ≡ back 0 (λ m. getD (corrected (metC2 corrected g m)) (getD rowsOfBytes b 0) 0) (getD readerAfterC2 (getD rowsOfBytes b 0) 0) n
+  byte-of-c2 b n h = received.byte-read corrected corrected lost length-corrected length-corrected g long b n h
+
+  -- the doubt mark is set exactly where either of these two words has no codeword near
+  pub doubt-exact : (n : ℕ) → doubtAt g n ≡ either (lost (metC2 corrected g n)) (back 0 (λ m. lost (metC2 corrected g m)) 2 n)
+  doubt-exact n = received.doubt-read corrected corrected lost length-corrected length-corrected g long n

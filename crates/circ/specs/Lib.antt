@@ -2,14 +2,16 @@ pub mod Rows
 pub mod Chains
 pub mod Step
 pub mod Answers
-pub mod Coding
 pub mod Codes
 pub mod Steps
 pub mod Reading
+pub mod Coding
+pub mod CodeLaws
 pub mod Tables
 pub mod Words
 pub mod Writing
 pub mod Written
+pub mod ReadRows
 pub mod Mended
 pub mod ThereAndBack
 pub mod Laws

@@ -12,11 +12,10 @@ use Rattle.lines.specs.Stream.{back, outAt}
 use Rattle.lines.specs.Back.{back-same, back-all, back-none}
 use Rattle.lines.specs.Section.{section-law, length-out}
 use Rattle.lines.specs.Series.{three, late-row, gather}
-use Rattle.lines.specs.Chain.{chained}
-use Rattle.lines.specs.Chained.{chain-law}
-use Rattle.circ.specs.Rows.{placed, collected, doubt, rowsOfBytes, beforeC2, between, readerBeforeC1, readerBetween, readerAfterC2, inverted}
-use Rattle.circ.specs.Chains.{c2Word, c1Word, throughC1, throughC2, readerRows, readerOut, readerDoubt, readerAt, metC1}
+use Rattle.circ.specs.Rows.{placed, collected, doubt, rowsOfBytes, beforeC2, between, readerBetween, readerAfterC2}
+use Rattle.circ.specs.Chains.{c2Word, c1Word, throughC1, throughC2, readerOut, readerDoubt, readerAt, metC1, metC2}
 use Rattle.circ.specs.Coding.{Coding, Correcting}
+use Rattle.circ.specs.ReadRows.{rows-read}
 use Rattle.circ.specs.Tables.{carries-low, byte-carried, around-between, around-c2, collected-at, length-collected, placed-at}
 use Rattle.circ.specs.Writing.{length-c2, length-c1, c2-data, c1-low, bytes-c2, bytes-c1, c2-codeword, c1-codeword}
 
@@ -47,7 +46,7 @@ module _ {C : List ℕ → Type 0} {q p fix₁ fix₂ : List ℕ → List ℕ} {
     V₁ n = throughC1 fix₁ (metC1 g n)
 
     abbrev U₂ : ℕ → List ℕ
-    U₂ n = outAt readerBetween (λ m. V₁ m) n
+    U₂ n = metC2 fix₁ g n
 
     abbrev V₂ : ℕ → List ℕ
     V₂ n = throughC2 fix₂ mark (U₂ n)
@@ -69,10 +68,11 @@ module _ {C : List ℕ → Type 0} {q p fix₁ fix₂ : List ℕ → List ℕ} {
 
     -- the C2 words come 109 steps later
     length-U₂ : (n : ℕ) → length (U₂ n) ≡ 28
+    unfolding metC2
     length-U₂ n = length-out readerBetween (λ m. V₁ m) n ∙ length-V₁ n
 
     row-U₂ : (r n : ℕ) → r < 28 → getD (U₂ n) r 0 ≡ back 0 (λ m. getD (C2 m) r 0) 109 n
-    unfolding readerBetween
+    unfolding readerBetween metC2
     row-U₂ r n h =
         section-law readerBetween (λ m. V₁ m) r n (λ m. omega (arith, length-V₁ m))
         ∙ three (λ m. getD (C2 m) r 0) (λ m. getD (C1 m) r 0) (λ m. getD (V₁ m) r 0) (getD between r 0) 1 (getD readerBetween r 0) n
@@ -132,18 +132,13 @@ module _ {C : List ℕ → Type 0} {q p fix₁ fix₂ : List ℕ → List ℕ} {
         ∙ ap (λ (k : ℕ). getD (U₂ m ++ (0 ∷ 0 ∷ [])) (k + i) 0) (sym (length-U₂ m))
         ∙ getD-append-add (U₂ m) (0 ∷ 0 ∷ []) i 0
 
-    -- the reader's steps are these streams
-    rows-read : (n : ℕ) → readerRows fix₁ fix₂ mark (readerAt fix₁ fix₂ mark g n) (g n) ≡ U₃ n
-    unfolding readerRows readerAt chained metC1
-    rows-read n = chain-law readerBeforeC1 readerBetween readerAfterC2 inverted (throughC1 fix₁) (throughC2 fix₂ mark) g n
-
     -- the frame of 111 steps before, zeros before the start
     pub mended-back : (n : ℕ) → readerOut fix₁ fix₂ mark (readerAt fix₁ fix₂ mark g n) (g n) ≡ back (replicate 24 0) f 111 n
     mended-back n =
-        ap collected (rows-read n)
+        ap collected (rows-read fix₁ fix₂ mark g n)
         ∙ gather (collected (U₃ n)) f 24 111 n (length-collected (U₃ n)) f24 (λ b h. collected-at (U₃ n) b h ∙ byte b n h)
 
     -- without doubt
     pub mended-sure : (n : ℕ) → readerDoubt fix₁ fix₂ mark (readerAt fix₁ fix₂ mark g n) (g n) ≡ 0
     unfolding doubt
-    mended-sure n = ap doubt (rows-read n) ∙ rw (no-mark 28 n (marks 0), no-mark 29 n (marks 1))
+    mended-sure n = ap doubt (rows-read fix₁ fix₂ mark g n) ∙ rw (no-mark 28 n (marks 0), no-mark 29 n (marks 1))

@@ -32,9 +32,13 @@ rowsOfBytes = 0 ∷ 1 ∷ 6 ∷ 7 ∷ 16 ∷ 17 ∷ 22 ∷ 23 ∷ 2 ∷ 3 ∷ 8 
 abbrev pub collected : List ℕ → List ℕ
 collected rows = picked rowsOfBytes rows
 
--- the doubt mark that these rows carry: 1 where row 28 or row 29 holds a mark
+-- 1 where either of two marks is set
+abbrev pub either : ℕ → ℕ → ℕ
+either a b = cond (eqb a 0) (cond (eqb b 0) 0 1) 1
+
+-- the doubt mark that these rows carry
 unfoldable pub doubt : List ℕ → ℕ
-doubt rows = cond (eqb (getD rows 28 0) 0) (cond (eqb (getD rows 29 0) 0) 0 1) 1
+doubt rows = either (getD rows 28 0) (getD rows 29 0)
 
 -- ---- how many frames each row waits in the writer
 
