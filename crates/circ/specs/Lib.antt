@@ -15,6 +15,7 @@ pub mod ReadRows
 pub mod Mended
 pub mod ThereAndBack
 pub mod Laws
+pub mod Runs
 pub mod Fresh
 pub mod Damage
 pub mod Figures

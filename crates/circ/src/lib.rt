@@ -1,4 +1,4 @@
-// CIRC (clause 17, Annex C): F1-frames of 24 bytes become F2-frames of 32 and come back. The state is the bytes that wait.
+// CIRC (clause 17, Annex C): F1-frames of 24 bytes become F2-frames of 32 and come back. A state is the bytes that wait, all in one flat store.
 ghost use mathlib.Core.Path.{_≡_};
 ghost use mathlib.Core.List.{_++_};
 ghost use Prim.Native.Nat.{_+_, _-_, _≤_};
@@ -15,7 +15,7 @@ mod writer_waits;
 
 use mask::MASK;
 
-// Of the writer: 24 bytes wait before C2, 1,512 between C2 and C1, 16 after C1.
+// 24 bytes wait before C2, 1,512 between C2 and C1, and 16 after C1.
 pub struct CircWriter {
     pub line: [u8; 1552],
 }
@@ -31,12 +31,12 @@ pub struct WriterStep {
     pub answer: WriterAnswer,
 }
 
-// Of the reader: 16 bytes wait before C1, 1,512 between C1 and C2, 24 bytes and two marks after C2.
+// 16 bytes wait before C1, 1,512 between C1 and C2, and 24 bytes and two marks after C2.
 pub struct CircReader {
     pub line: [u8; 1554],
 }
 
-// What comes back with the 24 bytes: all sure, or in doubt because a C2 word that they came from had no codeword near.
+// The 24 bytes are sure, or in doubt because a C2 word that they came from had no codeword near.
 pub enum ReaderAnswer {
     Sure,
     InDoubt,

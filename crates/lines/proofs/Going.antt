@@ -2,15 +2,14 @@
 -- what stands in the store before the place reached, then the carry, then the step that is left, is always the store after the step, with one byte before it.
 -- Assumes nothing.
 use mathlib.Core.Path.{_≡_, refl, sym, ap, ap₂, _∙_}
-use mathlib.Core.Logic.{_⊎_, ⊎-elim}
 use mathlib.Core.List.{List, [], _∷_, _++_, append-assoc}
 use Prim.Native.Nat.{ℕ, suc, _+_, _-_, _≤_, _<_}
 use native.Mathlib.Numerals.{add-one}
 use native.Mathlib.Omega.{arith}
-use lib.ListN.{length, take, drop, getD, set, length-set, length-drop, drop-of-length-le}
-use lib.Seq.{take-all, take-suc, drop-cons, set-split, take-suc-set, drop-set-lt, drop-drop, take-append-add, length-take-le, append-snoc}
-use Rattle.outcome.specs.First.{lt-or-le}
+use lib.ListN.{length, take, drop, getD, set, length-set, length-drop}
+use lib.Seq.{take-suc, drop-cons, set-split, take-suc-set, drop-set-lt, drop-drop, take-append-add, length-take-le, append-snoc}
 use Rattle.lines.specs.Delay.{lineOut, lineNext, rowsOut, rowsNext}
+use Rattle.lines.proofs.Rest.{take-short, drop-short, rest-out, rest-next, line-out, line-next}
 
 pub record Going (lens line₀ word₀ line word : List ℕ) (at carry k : ℕ) : Type 0 where
   pub low-lens : k ≤ length lens
@@ -32,40 +31,6 @@ start lens line word =
       out = refl;
       next = refl;
     }
-
--- a line ends at the store's end
-module _ (d e : ℕ) (s : List ℕ) (h : e ≡ d - (d - length s)) where
-  short : {A : Type 0} (f : ℕ → A) → ((n : ℕ) → length s ≤ n → f n ≡ f (length s)) → f d ≡ f e
-  short f past = ⊎-elim
-      (λ (l : d < length s). ap f (omega arith))
-      (λ (l : length s ≤ d). past d l ∙ ap f (omega arith))
-      (lt-or-le d (length s))
-
-  take-short : take d s ≡ take e s
-  take-short = short (λ n. take n s) (λ n l. take-all n s l ∙ sym (take-all (length s) s (omega arith)))
-
-  drop-short : drop d s ≡ drop e s
-  drop-short = short (λ n. drop n s) (λ n l. drop-of-length-le s l ∙ sym (drop-of-length-le s {i = length s} (omega arith)))
-
--- the rows from the k-th on: row k, and the rows after it
-rest-out : (ds s w : List ℕ) (k : ℕ) → k < length ds → k < length w
-    → rowsOut (drop k ds) s (drop k w) ≡ lineOut (take (getD ds k 0) s) (getD w k 0) ∷ rowsOut (drop (k + 1) ds) (drop (getD ds k 0) s) (drop (k + 1) w)
-unfolding rowsOut
-rest-out ds s w k h l = rw (add-one, drop-cons ds k 0, drop-cons w k 0)
-
-rest-next : (ds s w : List ℕ) (k : ℕ) → k < length ds → k < length w
-    → rowsNext (drop k ds) s (drop k w) ≡ lineNext (take (getD ds k 0) s) (getD w k 0) ++ rowsNext (drop (k + 1) ds) (drop (getD ds k 0) s) (drop (k + 1) w)
-unfolding rowsNext
-rest-next ds s w k h l = rw (add-one, drop-cons ds k 0, drop-cons w k 0)
-
--- a line with something in it: its oldest byte comes out, and the new one goes in behind the others
-line-out : (e x y : ℕ) (s : List ℕ) → lineOut (take (suc e) (y ∷ s)) x ≡ y
-unfolding lineOut
-line-out e x y s = refl
-
-line-next : (e x y : ℕ) (s : List ℕ) → lineNext (take (suc e) (y ∷ s)) x ≡ take e s ++ (x ∷ [])
-unfolding lineNext
-line-next e x y s = refl
 
 module _ {lens line₀ word₀ line word : List ℕ} {at carry k d : ℕ} (g : Going lens line₀ word₀ line word at carry k)
     (hl : k < length lens) (hw : k < length word₀) (hd : d ≡ getD lens k 0 - (getD lens k 0 - (length line - at))) where
