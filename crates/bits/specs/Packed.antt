@@ -68,9 +68,9 @@ joined a b c rest hb hc =
 middle : (j n r v : ℕ) (rest : List ℕ) → number 0 (take n (drop j (bitsOf (j + (n + r)) v ++ rest))) ≡ v / 2 ^ r % 2 ^ n
 middle j n r v rest =
     let e : bitsOf (j + (n + r)) v ++ rest ≡ bitsOf j (v / 2 ^ (n + r)) ++ (bitsOf n (v / 2 ^ r) ++ (bitsOf r v ++ rest))
-          = ap (λ (t : List ℕ). t ++ rest) (bits-split j (n + r) v ∙ ap (λ (t : List ℕ). bitsOf j (v / 2 ^ (n + r)) ++ t) (bits-split n r v))
-            ∙ append-assoc (bitsOf j (v / 2 ^ (n + r))) (bitsOf n (v / 2 ^ r) ++ bitsOf r v) rest
-            ∙ ap (λ (t : List ℕ). bitsOf j (v / 2 ^ (n + r)) ++ t) (append-assoc (bitsOf n (v / 2 ^ r)) (bitsOf r v) rest) in
+    = ap (λ (t : List ℕ). t ++ rest) (bits-split j (n + r) v ∙ ap (λ (t : List ℕ). bitsOf j (v / 2 ^ (n + r)) ++ t) (bits-split n r v))
+    ∙ append-assoc (bitsOf j (v / 2 ^ (n + r))) (bitsOf n (v / 2 ^ r) ++ bitsOf r v) rest
+    ∙ ap (λ (t : List ℕ). bitsOf j (v / 2 ^ (n + r)) ++ t) (append-assoc (bitsOf n (v / 2 ^ r)) (bitsOf r v) rest) in
     ap (λ (t : List ℕ). number 0 (take n (drop j t))) e
     ∙ ap (λ (t : List ℕ). number 0 (take n t)) (drop-at (bitsOf j (v / 2 ^ (n + r))) (bitsOf n (v / 2 ^ r) ++ (bitsOf r v ++ rest)) j (length-bits j (v / 2 ^ (n + r))))
     ∙ ap (number 0) (take-at (bitsOf n (v / 2 ^ r)) (bitsOf r v ++ rest) n (length-bits n (v / 2 ^ r)))
@@ -91,11 +91,11 @@ module _ (xs : List ℕ) (h : Bytes xs) (i : ℕ) (room : i + 2 < length xs) whe
       let l : i < length xs = omega arith in
       let m : i + 1 < length xs = omega arith in
       let e : drop i xs ≡ getD xs i 0 ∷ getD xs (i + 1) 0 ∷ getD xs (i + 2) 0 ∷ drop (suc (i + 2)) xs
-            = drop-cons xs i 0 l
-              ∙ ap (λ (k : ℕ). getD xs i 0 ∷ drop k xs) (sym (add-one i))
-              ∙ ap (λ (t : List ℕ). getD xs i 0 ∷ t) (drop-cons xs (i + 1) 0 m)
-              ∙ ap (λ (k : ℕ). getD xs i 0 ∷ getD xs (i + 1) 0 ∷ drop k xs) (two i)
-              ∙ ap (λ (t : List ℕ). getD xs i 0 ∷ getD xs (i + 1) 0 ∷ t) (drop-cons xs (i + 2) 0 room) in
+      = drop-cons xs i 0 l
+      ∙ ap (λ (k : ℕ). getD xs i 0 ∷ drop k xs) (sym (add-one i))
+      ∙ ap (λ (t : List ℕ). getD xs i 0 ∷ t) (drop-cons xs (i + 1) 0 m)
+      ∙ ap (λ (k : ℕ). getD xs i 0 ∷ getD xs (i + 1) 0 ∷ drop k xs) (two i)
+      ∙ ap (λ (t : List ℕ). getD xs i 0 ∷ getD xs (i + 1) 0 ∷ t) (drop-cons xs (i + 2) 0 room) in
       unpack-drop i xs ∙ ap unpack e
       ∙ joined (getD xs i 0) (getD xs (i + 1) 0) (getD xs (i + 2) 0) (unpack (drop (suc (i + 2)) xs)) (h (i + 1)) (h (i + 2))
 
