@@ -1,0 +1,1 @@
+// Merging bits: what the choice between two words goes by.
