@@ -7,3 +7,6 @@ pub mod Ties
 pub mod Ready
 pub mod Taken
 pub mod Agree
+pub mod Traces
+pub mod Profiles
+pub mod Places
