@@ -1,0 +1,2 @@
+pub mod Pens
+pub mod Options

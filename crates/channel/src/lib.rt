@@ -1,0 +1,4 @@
+// Channel bits of whole Sections.
+mod choice;
+mod frame;
+mod pen;
