@@ -5,3 +5,4 @@ pub mod Symbols
 pub mod Standing
 pub mod Writes
 pub mod State
+pub mod WriteSay

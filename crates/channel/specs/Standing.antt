@@ -100,6 +100,7 @@ pub record FrameDone (out : List ℕ) (w : Writing) (frames control : List ℕ) 
   pub is : writing out′ w′ ≡ withFrame (writing out w) (frameWords frames control f)
 
 pub record FramesDone (t : Trace) (frames control out : List ℕ) (t′ : Trace) : Type 0 where
+  pub long : length out ≡ 7203
   pub is : _≡_ {A = Written} (record { bits = unpack out; level = t′ .level; plus = t′ .plus; minus = t′ .minus }) (sectionAfter (t .level) (t .plus) (t .minus) frames control)
   pub level-low : t′ .level ≤ 1
   pub plus-low : t′ .plus ≤ 25930857624

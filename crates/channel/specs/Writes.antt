@@ -82,8 +82,8 @@ module _ (out : List ℕ) (w : Writing) (x : ℕ) (c : Choice) (out′ : List �
       record {
         rest = moved-rest out w (c .bits) 17 out′ next (s .rest) i bs (d .bits-are) (ap (λ (t : Trace). t .level) a) (ap (λ (t : Trace). t .plus) a) (ap (λ (t : Trace). t .minus) a);
         tied = subst (λ (r : ℕ). Tied (inked out′ pen) r) run
-          (subst (λ (l : List ℕ). Tied l (steps (w .trace .run) bs)) (sym (i .bits ∙ ap (λ (l : List ℕ). inked out (w .pen) ++ l) (d .bits-are)))
-          (tied-more (inked out (w .pen)) (w .trace .run) bs (s .tied) (subst Binary (d .bits-are) (binary-bits 17 (c .bits))) (word-passes (w .trace .run) (bitsOf 14 x) k (traceDsv (w .trace) (bitsOf 14 x)))));
+            (subst (λ (l : List ℕ). Tied l (steps (w .trace .run) bs)) (sym (i .bits ∙ ap (λ (l : List ℕ). inked out (w .pen) ++ l) (d .bits-are)))
+            (tied-more (inked out (w .pen)) (w .trace .run) bs (s .tied) (subst Binary (d .bits-are) (binary-bits 17 (c .bits))) (word-passes (w .trace .run) (bitsOf 14 x) k (traceDsv (w .trace) (bitsOf 14 x)))));
         at-ease = subst (λ (r : ℕ). T (ready r)) run (word-ready (w .trace .run) (bitsOf 14 x) k (traceDsv (w .trace) (bitsOf 14 x)));
       }
 
@@ -94,7 +94,7 @@ module _ (out : List ℕ) (w : Writing) (x : ℕ) (c : Choice) (out′ : List �
       let a : c .after ≡ trace (w .trace) bs = d .after-is in
       moved out w (c .bits) 17 out′ next (s .rest) i bs (d .bits-are) (ap (λ (t : Trace). t .level) a) (ap (λ (t : Trace). t .plus) a) (ap (λ (t : Trace). t .minus) a)
       ∙ ap (λ (m : List ℕ). after (writing out w) (m ++ bitsOf 14 x))
-        (sym (word-agrees (inked out (w .pen)) (w .trace .run) (s .tied) (bitsOf 14 x) (omega (arith, length-bits 14 x)) k (traceDsv (w .trace) (bitsOf 14 x))))
+      (sym (word-agrees (inked out (w .pen)) (w .trace .run) (s .tied) (bitsOf 14 x) (omega (arith, length-bits 14 x)) k (traceDsv (w .trace) (bitsOf 14 x))))
 
   pub word-done : (k : ℕ) → getD symbols k 0 ≡ x → WordDone out w k out′ (record { pen = pen; trace = c .after })
   word-done k e =
@@ -132,11 +132,11 @@ module _ (out : List ℕ) (w : Writing) (out′ : List ℕ) (pen : Pen) (t : Tra
       let n : Writing = record { pen = pen; trace = t } in
       record {
         stands =
-          record {
-            rest = moved-rest out w 0b100000000001000000000010 24 out′ n (b .rest) i header refl h-level h-plus h-minus;
-            tied = subst (λ (r : ℕ). Tied (inked out′ pen) r) (sym h-run) (subst (λ (l : List ℕ). Tied l 12) (sym (i .bits)) (b .opens));
-            at-ease = subst (λ (r : ℕ). T (ready r)) (sym h-run) tt;
-          };
+            record {
+              rest = moved-rest out w 0b100000000001000000000010 24 out′ n (b .rest) i header refl h-level h-plus h-minus;
+              tied = subst (λ (r : ℕ). Tied (inked out′ pen) r) (sym h-run) (subst (λ (l : List ℕ). Tied l 12) (sym (i .bits)) (b .opens));
+              at-ease = subst (λ (r : ℕ). T (ready r)) (sym h-run) tt;
+            };
         state = h-run;
         place = i .place;
         is = moved out w 0b100000000001000000000010 24 out′ n (b .rest) i header refl h-level h-plus h-minus;
@@ -197,12 +197,12 @@ module _ (out : List ℕ) (w : Writing) (c : Choice) (out′ : List ℕ) (pen : 
       record {
         rest = moved-rest out w (c .bits) 3 out′ n (s .rest) i m (d .bits-are) (g .level) (g .plus) (g .minus);
         opens = subst (λ (l : List ℕ). Tied (l ++ header) 12) (sym bits)
-          (tied-header (inked out (w .pen) ++ m) (steps (w .trace .run) m)
-          (tied-more (inked out (w .pen)) (w .trace .run) m (s .tied) (subst Binary (d .bits-are) (binary-bits 3 (c .bits))) (live-first (steps (w .trace .run) m) start22 fine)) fine);
+            (tied-header (inked out (w .pen) ++ m) (steps (w .trace .run) m)
+            (tied-more (inked out (w .pen)) (w .trace .run) m (s .tied) (subst Binary (d .bits-are) (binary-bits 3 (c .bits))) (live-first (steps (w .trace .run) m) start22 fine)) fine);
         state = omega (arith, g .run);
         place = i .place;
         is = moved out w (c .bits) 3 out′ n (s .rest) i m (d .bits-are) (g .level) (g .plus) (g .minus)
-          ∙ ap (after (writing out w))
+            ∙ ap (after (writing out w))
             (sym (header-agrees (w .trace .run) (header-taken (w .trace .run) (s .at-ease)) (traceDsv (w .trace) header) (inked out (w .pen)) (s .tied)));
       }
 
@@ -232,16 +232,16 @@ module _ {out₀ : List ℕ} {w₀ : Writing} {frames control : List ℕ} {f : �
   words-more k out′ w′ h e d =
       let a = tabulated (wordAt frames control f) (suc i) (33 - (i + 1)) in
       let n : tabulated (wordAt frames control f) i (33 - i) ≡ wordAt frames control f i ∷ a
-            = tabulated-next (wordAt frames control f) i (33 - i) (omega arith) ∙ ap (λ (j : ℕ). wordAt frames control f i ∷ tabulated (wordAt frames control f) (suc i) j) (minus-one i) in
+      = tabulated-next (wordAt frames control f) i (33 - i) (omega arith) ∙ ap (λ (j : ℕ). wordAt frames control f i ∷ tabulated (wordAt frames control f) (suc i) j) (minus-one i) in
       record {
         stands = d .stands;
         upto = omega arith;
         first = λ z. absurd (omega arith);
         place = omega (arith, d .place, g .place);
         is = ap (λ (j : ℕ). withWords (writing out′ w′) (tabulated (wordAt frames control f) j (33 - (i + 1)))) (add-one i)
-          ∙ ap (λ (x : Written). withWords x a) (d .is ∙ ap (λ (x : ℕ). withWord (writing out w) (bitsOf 14 x)) e)
-          ∙ ap (withWords (writing out w)) (sym n)
-          ∙ g .is;
+            ∙ ap (λ (x : Written). withWords x a) (d .is ∙ ap (λ (x : ℕ). withWord (writing out w) (bitsOf 14 x)) e)
+            ∙ ap (withWords (writing out w)) (sym n)
+            ∙ g .is;
       }
 
   pub words-all : 33 ≤ i → WordsDone out₀ w₀ frames control f out w
@@ -308,9 +308,9 @@ module _ {t : Trace} {frames control out : List ℕ} {w : Writing} {f : ℕ} (g 
         upto = omega arith;
         place = omega (arith, d .place, g .place);
         is = ap (λ (j : ℕ). withFrames (writing out′ w′) frames control j (98 - (f + 1))) (add-one f)
-          ∙ ap (λ (x : Written). withFrames x frames control (suc f) (98 - (f + 1))) (d .is)
-          ∙ sym (frames-next (writing out w) frames control f (98 - f) (98 - (f + 1)) (omega arith))
-          ∙ g .is;
+            ∙ ap (λ (x : Written). withFrames x frames control (suc f) (98 - (f + 1))) (d .is)
+            ∙ sym (frames-next (writing out w) frames control f (98 - f) (98 - (f + 1)) (omega arith))
+            ∙ g .is;
       }
 
   pub frames-all : 98 ≤ f → FramesDone t frames control out (w .trace)
@@ -321,11 +321,12 @@ module _ {t : Trace} {frames control out : List ℕ} {w : Writing} {f : ℕ} (g 
       let at : w .pen .at ≡ 7203 = omega (arith, g .place, g .rest .held .few) in
       let none : w .pen .count ≡ 0 = omega (arith, g .place, g .rest .held .few) in
       let whole : inked out (w .pen) ≡ unpack out
-            = ap₂ (λ (a b : ℕ). unpack (take a out) ++ bitsOf b (w .pen .held)) (at ∙ sym (g .rest .long)) none
-              ∙ append-nil (unpack (take (length out) out)) ∙ ap unpack (take-length out) in
+      = ap₂ (λ (a b : ℕ). unpack (take a out) ++ bitsOf b (w .pen .held)) (at ∙ sym (g .rest .long)) none
+      ∙ append-nil (unpack (take (length out) out)) ∙ ap unpack (take-length out) in
       record {
+        long = g .rest .long;
         is = (λ j. record { bits = sym whole j; level = w .trace .level; plus = w .trace .plus; minus = w .trace .minus })
-          ∙ subst (λ (n : ℕ). withFrames (writing out w) frames control f n ≡ sectionAfter (t .level) (t .plus) (t .minus) frames control) e (g .is);
+            ∙ subst (λ (n : ℕ). withFrames (writing out w) frames control f n ≡ sectionAfter (t .level) (t .plus) (t .minus) frames control) e (g .is);
         level-low = g .rest .level-low;
         plus-low = omega (arith, g .place, g .rest .plus-low);
         minus-low = omega (arith, g .place, g .rest .minus-low);

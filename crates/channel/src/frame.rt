@@ -9,7 +9,6 @@ ghost use Rattle.merging.specs.Traces.{spent};
 ghost use Rattle.channel.specs.Options.{Light};
 ghost use Rattle.channel.specs.Symbols.{SymbolFound};
 ghost use Rattle.channel.specs.Standing.{Standing, Between, Begun, WordDue, WordDone, HeaderDone, WordsDue, WordsDone, TailDone, FrameDue, FrameDone, FramesDone};
-
 use crate::choice;
 use crate::pen;
 use crate::pen::Pen;
@@ -49,7 +48,10 @@ fn write_word(out: &mut [u8], w: Writing, table: &[u8; 2064], k: usize) -> Writi
     let c = choice::choose_word(t, p);
     let after = pen::put(out, before, c.bits, 17, 131072);
     let next = c.after;
-    Writing { pen: after, trace: next }
+    Writing {
+        pen: after,
+        trace: next,
+    }
 }
 
 // A Sync Header, at its place.
@@ -61,7 +63,10 @@ fn write_header(out: &mut [u8], w: Writing) -> Writing
     let before = w.pen;
     let after = pen::put(out, before, 0b100000000001000000000010, 24, 16777216);
     let next = choice::spend(t, 12, 11, 13, 1);
-    Writing { pen: after, trace: next }
+    Writing {
+        pen: after,
+        trace: next,
+    }
 }
 
 // The trace after the Merging bits 000 or 100.
@@ -85,11 +90,21 @@ fn write_tail(out: &mut [u8], w: Writing) -> Writing
     let c = choice::choose_header(t);
     let after = pen::put(out, before, c.bits, 3, 8);
     let next = merged(t, c.bits);
-    Writing { pen: after, trace: next }
+    Writing {
+        pen: after,
+        trace: next,
+    }
 }
 
 // The words of frame f.
-fn write_words(out: &mut [u8], w: Writing, table: &[u8; 2064], frames: &[u8], control: &[u8], f: usize) -> Writing
+fn write_words(
+    out: &mut [u8],
+    w: Writing,
+    table: &[u8; 2064],
+    frames: &[u8],
+    control: &[u8],
+    f: usize,
+) -> Writing
     requires { ⌜ WordsDue (now out) w (now table) (now frames) (now control) f ⌝ }
     ensures { λ r. ⌜ WordsDone (now (out .entry)) w (now (frames .entry)) (now (control .entry)) f (now (out .exit)) r ⌝ }
 {
@@ -104,7 +119,14 @@ fn write_words(out: &mut [u8], w: Writing, table: &[u8; 2064], frames: &[u8], co
 }
 
 // Frame f.
-fn write_frame(out: &mut [u8], w: Writing, table: &[u8; 2064], frames: &[u8], control: &[u8], f: usize) -> Writing
+fn write_frame(
+    out: &mut [u8],
+    w: Writing,
+    table: &[u8; 2064],
+    frames: &[u8],
+    control: &[u8],
+    f: usize,
+) -> Writing
     requires { ⌜ FrameDue (now out) w (now table) (now frames) (now control) f ⌝ }
     ensures { λ r. ⌜ FrameDone (now (out .entry)) w (now (frames .entry)) (now (control .entry)) f (now (out .exit)) r ⌝ }
 {
@@ -119,8 +141,15 @@ pub(crate) fn write_frames(out: &mut [u8], t: Trace, frames: &[u8], control: &[u
     ensures { λ r. ⌜ FramesDone t (now (frames .entry)) (now (control .entry)) (now (out .exit)) r ⌝ }
 {
     let table = merging::profile_rows();
-    let start = Pen { at: 0, held: 0, count: 0 };
-    let mut s = Writing { pen: start, trace: t };
+    let start = Pen {
+        at: 0,
+        held: 0,
+        count: 0,
+    };
+    let mut s = Writing {
+        pen: start,
+        trace: t,
+    };
     let mut f: usize = 0;
     while f < 98 {
         s = write_frame(out, s, &table, frames, control, f);

@@ -1,4 +1,8 @@
-// Channel bits of whole Sections.
+// Channel bits of whole Sections (clause 19): the writer and the reader.
+ghost use mathlib.Core.Path.{_≡_};
+ghost use Rattle.channel.specs.State.{fresh};
+ghost use Rattle.channel.specs.WriteSay.{sayWritten, stepped, written};
+
 mod choice;
 mod frame;
 mod pen;
@@ -9,4 +13,80 @@ pub struct SectionWriter {
     pub dsv: i64,
     pub level: i64,
     pub sections: u64,
+}
+
+// What writing a Section answers.
+pub enum Written {
+    Done,
+    WrongIncoming,
+    WrongOutgoing,
+    ImpossibleState,
+    DiscFull,
+}
+
+// The state after a step, and what the step answers.
+pub struct Step {
+    pub next: SectionWriter,
+    pub answer: Written,
+}
+
+impl SectionWriter {
+    // Nothing is written yet.
+    pub fn new() -> Self
+        ensures { λ r. ⌜ r ≡ fresh ⌝ }
+    {
+        SectionWriter {
+            dsv: 0,
+            level: -1,
+            sections: 0,
+        }
+    }
+
+    // A Section of 98 frames of 32 bytes and of 96 Control bytes becomes 7,203 bytes of Channel bits.
+    pub fn write(self, frames: &[u8], control: &[u8], out: &mut [u8]) -> Step
+        ensures { λ r. ⌜ stepped (sayWritten (r .answer)) (r .next) (now (out .exit)) ≡ written self (now (frames .entry)) (now (control .entry)) (now (out .entry)) ⌝ }
+    {
+        if frames.len() != 3136 {
+            outcome::wipe(out, 7203);
+            return Step {
+                next: self,
+                answer: Written::WrongIncoming,
+            };
+        }
+        if control.len() != 96 {
+            outcome::wipe(out, 7203);
+            return Step {
+                next: self,
+                answer: Written::WrongIncoming,
+            };
+        }
+        if out.len() != 7203 {
+            return Step {
+                next: self,
+                answer: Written::WrongOutgoing,
+            };
+        }
+        if state::state_right(self) {
+            let sections = self.sections;
+            if sections < 450000 {
+                let before = state::begin(self);
+                let after = frame::write_frames(out, before, frames, control);
+                let next = state::advance(after, sections);
+                return Step {
+                    next: next,
+                    answer: Written::Done,
+                };
+            }
+            outcome::clear(out);
+            return Step {
+                next: self,
+                answer: Written::DiscFull,
+            };
+        }
+        outcome::clear(out);
+        Step {
+            next: self,
+            answer: Written::ImpossibleState,
+        }
+    }
 }

@@ -5,7 +5,6 @@ ghost use Prim.Native.Nat.{_+_, _*_, _≤_, _<_, _^_};
 ghost use lib.Dec.{leb};
 ghost use lib.IntN.{subℕ, natAbs};
 ghost use Rattle.channel.specs.State.{above, below, levelRight, right, levelNow, levelThen, beginning, advanced};
-
 use crate::SectionWriter;
 use merging::Trace;
 

@@ -1,27 +1,41 @@
+-- `channel::state::begin` meets its contract: a DSV that is right is in range (`right-below`).
+-- Assumes nothing.
+use mathlib.Core.Path.{_≡_, ap, _∙_}
+use native.Mathlib.Omega.{arith}
+use mir.Val.{SFits}
+use mir.ValLaws.{toZ-ofZ}
+use mir.Syntax.{w64}
+use Rattle.channel.specs.State.{above, below, levelNow}
+use Rattle.channel.proofs.Signed.{right-below}
 use borrow.Author.Needs.{needs}
 use Rattle.channel.proofs.state.begin.Statement.{statement}
 use Rattle.channel.proofs.state.begin.Tie as tie
-use Rattle.channel.proofs.state.begin.Reads as reads
-use Rattle.channel.proofs.state.begin.Lts as lts
-use Rattle.channel.proofs.state.above_of.Reads as above-of-reads
-use Rattle.channel.proofs.state.below_of.Reads as below-of-reads
-use Rattle.channel.proofs.state.level_now.Reads as level-now-reads
 
--- src/state.rt:114:9
 level-now-requires : tie.Need-level-now-requires
 level-now-requires c κs = search needs
 
--- src/state.rt:115:9
 above-of-requires : tie.Need-above-of-requires
 above-of-requires c κs = search needs
 
--- src/state.rt:116:9
 below-of-requires : tie.Need-below-of-requires
-below-of-requires c κs = ?
+below-of-requires c κs =
+    let a = c .before .before .before .before in
+    let k : SFits w64 (a .args .s .dsv) = record { sfits = c .before .before .before .struct-told .given .0 .1 } in
+    rw (toZ-ofZ w64 (a .args .s .dsv) k) (omega (arith, right-below (a .args .s) (a .pre)))
 
--- src/state.rt:108:1
 returns : tie.Need-returns
-returns c = ?
+returns c =
+    let g = c .before .before .before .before .struct-told .given in
+    let s = c .before .before .before .before .before .args .s in
+    let k : SFits w64 (s .dsv) = record { sfits = g .0 .1 } in
+    let f : SFits w64 (s .level) = record { sfits = g .1 .0 .1 } in
+    λ i.
+    record {
+      run = 12;
+      level = (c .before .before .level-now .ensures ∙ ap levelNow (toZ-ofZ w64 (s .level) f)) i;
+      plus = (c .before .above-of .ensures ∙ ap above (toZ-ofZ w64 (s .dsv) k)) i;
+      minus = (c .below-of .ensures ∙ ap below (toZ-ofZ w64 (s .dsv) k)) i;
+    }
 
 pub begin-spec : {M : Type 1} → statement M
 begin-spec = tie.close (tie.spec level-now-requires above-of-requires below-of-requires returns)

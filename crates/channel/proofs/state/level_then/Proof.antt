@@ -1,15 +1,14 @@
+-- `channel::state::level_then` meets its contract, by its test.
+-- Assumes nothing.
+use Rattle.channel.proofs.Signed.{then-zero, then-one}
 use Rattle.channel.proofs.state.level_then.Statement.{statement}
 use Rattle.channel.proofs.state.level_then.Tie as tie
-use Rattle.channel.proofs.state.level_then.Reads as reads
-use Rattle.channel.proofs.state.level_then.Lts as lts
 
--- src/state.rt:102:9
 returns : tie.Need-returns
-returns c = ?
+returns c = then-zero _ (c .if1 .taken)
 
--- src/state.rt:98:1
 returns-2 : tie.Need-returns-2
-returns-2 c = ?
+returns-2 c = then-one _ (c .if1 .left)
 
 pub level-then-spec : {M : Type 1} → statement M
 level-then-spec = tie.close (tie.spec returns returns-2)
