@@ -6,3 +6,7 @@ pub mod Standing
 pub mod Writes
 pub mod State
 pub mod WriteSay
+pub mod Reading
+pub mod Reads
+pub mod Frames
+pub mod ReadSay
