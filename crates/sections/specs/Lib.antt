@@ -1,0 +1,5 @@
+pub mod Runs
+pub mod Stream
+pub mod Carried
+pub mod Figures
+pub mod Back
