@@ -3,3 +3,5 @@ pub mod Stream
 pub mod Carried
 pub mod Figures
 pub mod Back
+pub mod Unpacked
+pub mod ThereAndBack
