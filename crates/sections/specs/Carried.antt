@@ -15,6 +15,7 @@ use Rattle.outcome.specs.Table.{tabulated, and-left, and-right, of-true}
 use Rattle.bits.specs.Bits.{bitsOf}
 use Rattle.bits.specs.Numbers.{length-bits}
 use Rattle.merging.specs.Agree.{better-keeps, word-keeps}
+use Rattle.merging.specs.Cases.{Binary, binary-append, binary-bits}
 use Rattle.merging.specs.Chosen.{Written, after, dsvAfter, beforeWord, beforeHeader, withWord, withHeader, withTail, m100, m000}
 use Rattle.merging.specs.Dsv.{levelAfter, ups, downs}
 use Rattle.merging.specs.Rule.{header, allowed}
@@ -28,10 +29,11 @@ use Rattle.channel.specs.WriteSay.{section, afterSection}
 pub record Grown (n : ℕ) (w w′ : Written) : Type 0 where
   pub bits : List ℕ
   pub long : length bits ≡ n
+  pub binary : Binary bits
   pub is : w′ ≡ after w bits
 
 grown-none : (w : Written) → Grown 0 w w
-grown-none w = record { bits = []; long = refl; is = λ i. record { bits = sym (append-nil (w .bits)) i; level = w .level; plus = sym (plus-none (w .plus)) i; minus = sym (plus-none (w .minus)) i } }
+grown-none w = record { bits = []; long = refl; binary = tt; is = λ i. record { bits = sym (append-nil (w .bits)) i; level = w .level; plus = sym (plus-none (w .plus)) i; minus = sym (plus-none (w .minus)) i } }
   where
     plus-none : (n : ℕ) → n + 0 ≡ n
     plus-none n = omega arith
@@ -41,6 +43,7 @@ grown-then {m} {n} {a} {b} {c} p q =
     record {
       bits = p .bits ++ q .bits;
       long = omega (arith, length-append (p .bits) (q .bits), p .long, q .long);
+      binary = binary-append (p .bits) (q .bits) (p .binary) (q .binary);
       is = q .is ∙ ap (λ (w : Written). after w (q .bits)) (p .is) ∙ (λ i.
           record {
             bits = append-assoc (a .bits) (p .bits) (q .bits) i;
@@ -58,11 +61,16 @@ unfolding withWord
 grown-word w x =
     let m = beforeWord (allowed (w .bits) (bitsOf 14 x)) (dsvAfter (w .level) (w .plus) (w .minus) (bitsOf 14 x)) in
     let l : length m ≡ 3 = word-keeps (allowed (w .bits) (bitsOf 14 x)) (dsvAfter (w .level) (w .plus) (w .minus) (bitsOf 14 x)) (λ m. length m ≡ 3) refl refl refl refl in
-    record { bits = m ++ bitsOf 14 x; long = omega (arith, length-append m (bitsOf 14 x), length-bits 14 x); is = refl }
+    let b : Binary m = word-keeps (allowed (w .bits) (bitsOf 14 x)) (dsvAfter (w .level) (w .plus) (w .minus) (bitsOf 14 x)) Binary (omega arith, (omega arith, (omega arith, tt))) (omega arith, (omega arith, (omega arith, tt))) (omega arith, (omega arith, (omega arith, tt))) (omega arith, (omega arith, (omega arith, tt))) in
+    record { bits = m ++ bitsOf 14 x; long = omega (arith, length-append m (bitsOf 14 x), length-bits 14 x); binary = binary-append m (bitsOf 14 x) b (binary-bits 14 x); is = refl }
 
 three : (ok : List ℕ → Bool) (dsv : List ℕ → ℕ) → length (beforeHeader ok dsv) ≡ 3
 unfolding beforeHeader
 three ok dsv = better-keeps (λ m. length m ≡ 3) ok dsv m100 m000 refl refl
+
+three-binary : (ok : List ℕ → Bool) (dsv : List ℕ → ℕ) → Binary (beforeHeader ok dsv)
+unfolding beforeHeader
+three-binary ok dsv = better-keeps Binary ok dsv m100 m000 (omega arith, (omega arith, (omega arith, tt))) (omega arith, (omega arith, (omega arith, tt)))
 
 pub grown-tail : (w : Written) → Grown 3 w (withTail w)
 unfolding withTail
@@ -70,6 +78,7 @@ grown-tail w =
     record {
       bits = beforeHeader (allowed (w .bits) header) (dsvAfter (w .level) (w .plus) (w .minus) header);
       long = three (allowed (w .bits) header) (dsvAfter (w .level) (w .plus) (w .minus) header);
+      binary = three-binary (allowed (w .bits) header) (dsvAfter (w .level) (w .plus) (w .minus) header);
       is = refl;
     }
 
@@ -82,7 +91,7 @@ grown-words (x ∷ ws) w =
 
 pub grown-header : (w : Written) → Grown 24 w (withHeader w)
 unfolding withHeader
-grown-header w = record { bits = header; long = refl; is = refl }
+grown-header w = record { bits = header; long = refl; binary = binary-bits 24 0b100000000001000000000010; is = refl }
 
 pub grown-frame : (w : Written) (frames control : List ℕ) (f : ℕ) → Grown 588 w (withFrame w (frameWords frames control f))
 unfolding withFrame frameWords

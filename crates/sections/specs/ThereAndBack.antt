@@ -6,7 +6,7 @@ use mathlib.Core.Bool.{Bool, true, false, cond, _&&_}
 use mathlib.Core.List.{List, [], _∷_, _++_}
 use Prim.Native.Nat.{ℕ, zero, suc, _+_, _-_, _*_, _/_, _%_, _≤_, _<_}
 use native.Mathlib.Omega.{arith}
-use borrow.Author.Tests.{eq-eqb}
+use borrow.Author.Tests.{eq-eqb, lt-ltb}
 use lib.Dec.{eqb, ltb}
 use lib.ListN.{length, getD}
 use lib.Seq.{ext-getD}
@@ -22,8 +22,12 @@ use Rattle.merging.specs.Cases.{Binary}
 use Rattle.channel.specs.declared.SectionWriter.{SectionWriter}
 use Rattle.channel.specs.ReadSay.{readOut, readSay, sectionRead}
 use Rattle.channel.specs.Reading.{wordRead, byteFor, markFor, byteRead, markRead, bytesRead, marksRead, firstHeadless}
-use Rattle.channel.specs.Section.{wordAt}
-use Rattle.channel.specs.WriteSay.{section}
+use Rattle.channel.specs.Section.{wordAt, withFrames, sectionAfter}
+use Rattle.channel.specs.State.{right, above, below, levelNow}
+use Rattle.channel.specs.WriteSay.{section, written, writeSay}
+use Rattle.merging.specs.Chosen.{Written}
+use Rattle.sections.specs.Carried.{Grown, grown-frames}
+use Rattle.sections.specs.Unpacked.{unpack-pack, length-pack}
 use Rattle.sections.specs.Back.{every-header, every-word}
 
 -- what a reader finds at place i of frame f: the Control byte first, with the SYNCs in place of the first two
@@ -64,7 +68,7 @@ module _ (frames control : List ℕ) (hf : Bytes frames) (hc : Bytes control) wh
   mark-back f i = go (eqb i 0) (eqb f 0) (eqb f 1) refl
     where
       go : (p q r : Bool) → eqb i 0 ≡ p → markFor (byteOf (cond p (cond q sync0 (cond r sync1 (wordOf (getD control (f - 2) 0)))) (wordOf (getD frames (32 * f + (i - 1)) 0))))
-            (cond p (cond q sync0 (cond r sync1 (wordOf (getD control (f - 2) 0)))) (wordOf (getD frames (32 * f + (i - 1)) 0))) i
+          (cond p (cond q sync0 (cond r sync1 (wordOf (getD control (f - 2) 0)))) (wordOf (getD frames (32 * f + (i - 1)) 0))) i
           ≡ cond p (cond q 2 (cond r 3 0)) 0
       go true true r e = ap (λ (x : Symbol). markFor x sync0 i) sync0-unknown ∙ rw e
       go true false true e = ap (λ (x : Symbol). markFor x sync1 i) sync1-unknown ∙ rw e
@@ -90,3 +94,21 @@ module _ (frames control : List ℕ) (hf : Bytes frames) (hc : Bytes control) wh
     unfolding sectionRead readSay
     there-and-back channel bytes marks l e p q =
         rw (eq-eqb (length channel) 7203 l, eq-eqb (length bytes) 3234 p, eq-eqb (length marks) 3234 q, e, every-header frames control hf hc s, bytes-back, marks-back)
+
+    -- the bits of a Section are 57,624, each 0 or 1
+    whole : unpack (pack 7203 (section s frames control .bits)) ≡ section s frames control .bits
+    unfolding section sectionAfter
+    whole =
+        let w : Written = record { bits = []; level = levelNow (s .level); plus = above (s .dsv); minus = below (s .dsv) } in
+        let g = grown-frames 98 w frames control 0 in
+        let e : withFrames w frames control 0 98 .bits ≡ g .bits = ap (λ (x : Written). x .bits) (g .is) in
+        unpack-pack 7203 (withFrames w frames control 0 98 .bits) (subst Binary (sym e) (g .binary)) (ap length e ∙ g .long)
+
+    -- what `write` leaves in its buffer, where it is not refused, `read_section` turns back
+    pub written-comes-back : (out bytes marks : List ℕ) → length frames ≡ 3136 → length control ≡ 96 → length out ≡ 7203 → right s ≡ true → s .sections < 450000
+        → length bytes ≡ 3234 → length marks ≡ 3234
+        → sectionRead (written s frames control out .out) bytes marks ≡ readOut (done []) (laidBytes frames control) laidMarks
+    unfolding written writeSay
+    written-comes-back out bytes marks f k l r n p q =
+        rw (eq-eqb (length frames) 3136 f, eq-eqb (length control) 96 k, eq-eqb (length out) 7203 l, r, lt-ltb (s .sections) 450000 n)
+        (there-and-back (pack 7203 (section s frames control .bits)) bytes marks (length-pack 7203 (section s frames control .bits)) whole p q)

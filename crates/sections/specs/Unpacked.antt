@@ -64,7 +64,7 @@ unpack-pack zero (b ∷ bs) p e = absurd (omega arith)
 unpack-pack (suc n) bs p e =
     let l : length (take 8 bs) ≡ 8 = length-take-le 8 bs (omega arith) in
     ap₂ _++_ (ap (λ (k : ℕ). bitsOf k (number 0 (take 8 bs))) (sym l) ∙ bits-number (take 8 bs) (binary-take 8 bs p))
-      (unpack-pack n (drop 8 bs) (binary-drop 8 bs p) (omega (arith, length-drop 8 bs)))
+    (unpack-pack n (drop 8 bs) (binary-drop 8 bs p) (omega (arith, length-drop 8 bs)))
     ∙ take-append-drop 8 bs
 
 pub length-pack : (n : ℕ) (bs : List ℕ) → length (pack n bs) ≡ n
