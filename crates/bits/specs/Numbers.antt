@@ -1,7 +1,7 @@
 -- The bits of a number: how they split, and that they say which number it is.
 -- Assumes nothing.
 use mathlib.Core.Path.{_≡_, refl, sym, ap, ap₂, _∙_}
-use mathlib.Core.List.{List, [], _∷_, _++_}
+use mathlib.Core.List.{List, _∷_, _++_}
 use Prim.Native.Nat.{ℕ, zero, suc, _+_, _*_, _/_, _%_, _^_, _<_}
 use native.Mathlib.Nat.{zero-add, suc-add, add-comm, pow-suc, add-mul, mul-assoc, mul-comm, mul-add-div-right}
 use native.Mathlib.Omega.{arith}

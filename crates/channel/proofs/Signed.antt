@@ -2,16 +2,16 @@
 -- Assumes nothing.
 use mathlib.Core.Path.{_≡_, refl, sym, ap, _∙_, subst}
 use mathlib.Core.Logic.{_⊎_, inl, inr}
-use mathlib.Core.Bool.{Bool, true, false}
+use mathlib.Core.Bool.{true, false}
 use Prim.Native.Nat.{ℕ, zero, suc, _<_, _≤_, _-_, _*_, _^_}
 use native.Mathlib.Omega.{arith}
 use native.Mathlib.Nat.{zero-add}
-use lib.Dec.{T, ltb, leb, leb→le}
+use lib.Dec.{T, leb, leb→le}
 use Rattle.outcome.specs.First.{lt-or-le}
 use Rattle.outcome.specs.Table.{and-left, and-right, of-true}
 use Rattle.channel.specs.declared.SectionWriter.{SectionWriter}
-use lib.IntN.{ℤ, pos, negsuc, natAbs, subℕ, _-ℤ_, negℤ}
-use lib.Signed.{ltZ, nonNeg, mag}
+use lib.IntN.{ℤ, pos, negsuc, natAbs, subℕ, _-ℤ_}
+use lib.Signed.{ltZ, nonNeg}
 use borrow.Author.Tests.{ltb-true, ltb-false, lt-ltb, le-ltb, lt-leb, eq-eqb, ne-eqb}
 use mir.Val.{SFits, ofZ}
 use mir.Syntax.{w64}

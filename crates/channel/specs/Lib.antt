@@ -1,9 +1,11 @@
 pub mod Pens
 pub mod Options
+pub mod Ways
 pub mod Section
 pub mod Symbols
 pub mod Standing
 pub mod Writes
+pub mod Going
 pub mod State
 pub mod WriteSay
 pub mod Reading

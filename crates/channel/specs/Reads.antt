@@ -1,22 +1,20 @@
 -- The laws of reading: a field of three bytes, the Sync Header in two halves, and buffers that are filled from the front.
 -- Assumes nothing.
-use mathlib.Core.Path.{_≡_, refl, sym, ap, ap₂, _∙_, subst}
-use mathlib.Core.Bool.{Bool, true, false, cond, not}
+use mathlib.Core.Path.{_≡_, refl, sym, ap, ap₂, _∙_}
+use mathlib.Core.Bool.{true, false, not}
 use mathlib.Core.List.{List, [], _∷_, _++_}
-use Prim.Native.Nat.{ℕ, zero, suc, _+_, _-_, _*_, _/_, _%_, _≤_, _<_, _^_}
+use Prim.Native.Nat.{ℕ, suc, _+_, _-_, _*_, _/_, _%_, _≤_, _<_, _^_}
 use native.Mathlib.Nat.{add-mul, mul-assoc, mul-comm, pow-suc, zero-mul, one-mul, mod-eq-of-lt}
 use lib.Pow.{pow-mono}
 use native.Mathlib.Numerals.{add-one}
 use native.Mathlib.Omega.{arith}
 use borrow.Author.Tests.{eq-eqb, ne-eqb}
-use lib.Dec.{eqb}
 use lib.ListN.{length, getD, set, take, drop, length-set, length-take, length-drop}
 use lib.Seq.{take-add, drop-drop, take-suc, take-suc-set, take-all}
 use Rattle.outcome.specs.Bytes.{Bytes}
-use Rattle.outcome.specs.Table.{tabulated, tabulated-at, length-tabulated}
+use Rattle.outcome.specs.Table.{tabulated-at, length-tabulated}
 use Rattle.bits.specs.Bits.{number, unpack}
-use Rattle.bits.specs.Packed.{three, from-three, length-unpack}
-use Rattle.words.specs.declared.Symbol.{Symbol}
+use Rattle.bits.specs.Packed.{three, from-three}
 use Rattle.words.specs.Words.{byteOf}
 use Rattle.channel.specs.Reading.{fieldAt, headless, wordRead, byteFor, markFor, byteRead, markRead, bytesRead, marksRead}
 

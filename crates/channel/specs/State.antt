@@ -1,6 +1,6 @@
 -- The state that a Section writer carries (document 01, "Numbers that come back", 7 and 9): level, DSV and the count of Sections.
 -- Assumes nothing.
-use mathlib.Core.Bool.{Bool, true, false, _&&_}
+use mathlib.Core.Bool.{Bool, _&&_}
 use Prim.Native.Nat.{ℕ, zero, suc, _+_, _*_}
 use lib.Dec.{eqb, leb}
 use lib.IntN.{ℤ, pos, negsuc, subℕ, natAbs}

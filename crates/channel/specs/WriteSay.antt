@@ -1,7 +1,7 @@
 -- What writing a Section answers, the state that it hands back, and the bytes that it leaves (document 01, "Numbers that come back": 1, 2, 9, 7).
 -- Assumes nothing.
-use mathlib.Core.Path.{_≡_, refl, sym, ap, ap₂, _∙_}
-use mathlib.Core.Bool.{Bool, true, false, cond, _&&_}
+use mathlib.Core.Path.{_≡_, sym, ap, ap₂, _∙_}
+use mathlib.Core.Bool.{true, false, _&&_}
 use mathlib.Core.List.{List, []}
 use Prim.Native.Nat.{ℕ, _<_, _≤_}
 use lib.Dec.{eqb, ltb}
@@ -12,16 +12,16 @@ use Rattle.outcome.specs.Say.{Say, done, refused, demand, cleared, leaves, clea
 use Rattle.bits.specs.Bits.{pack, unpack}
 use Rattle.bits.specs.Packed.{packed}
 use Rattle.merging.specs.declared.Trace.{Trace}
-use Rattle.merging.specs.Chosen as chosen
+use Rattle.merging.specs.Chosen.{Written}
 use Rattle.channel.specs.declared.SectionWriter.{SectionWriter}
-use Rattle.channel.specs.declared.Written.{Written}
-use Rattle.channel.specs.declared.Written.the-variants.{Done, WrongIncoming, WrongOutgoing, ImpossibleState, DiscFull}
+use Rattle.channel.specs.declared.SectionWritten.{SectionWritten}
+use Rattle.channel.specs.declared.SectionWritten.the-variants.{Done, WrongIncoming, WrongOutgoing, ImpossibleState, DiscFull}
 use Rattle.channel.specs.Section.{sectionAfter}
 use Rattle.channel.specs.Standing.{FramesDone}
 use Rattle.channel.specs.State.{right, above, below, levelNow, beginning, advanced}
 
 -- document 01's number for each answer
-abbrev pub sayWritten : Written → Say
+abbrev pub sayWritten : SectionWritten → Say
 sayWritten Done = done []
 sayWritten WrongIncoming = refused 1 []
 sayWritten WrongOutgoing = refused 2 []
@@ -38,11 +38,11 @@ abbrev pub stepped : Say → SectionWriter → List ℕ → Stepped
 stepped s n o = record { say = s; next = n; out = o }
 
 -- the Section that a writer makes of frames and Control bytes: its bits, and level and DSV after them
-unfoldable pub section : SectionWriter → List ℕ → List ℕ → chosen.Written
+unfoldable pub section : SectionWriter → List ℕ → List ℕ → Written
 section s frames control = sectionAfter (levelNow (s .level)) (above (s .dsv)) (below (s .dsv)) frames control
 
 -- the state after it
-unfoldable pub afterSection : SectionWriter → chosen.Written → SectionWriter
+unfoldable pub afterSection : SectionWriter → Written → SectionWriter
 afterSection s w = advanced (w .level) (w .plus) (w .minus) (s .sections)
 
 -- the demands in document 01's order
@@ -107,8 +107,8 @@ module _ (s : SectionWriter) (frames control out : List ℕ) where
           let e : writeSay s frames control out ≡ done []
           = simp (eq-eqb (length frames) 3136 f, eq-eqb (length control) 96 k, eq-eqb (length out) 7203 l, r, lt-ltb (s .sections) 450000 n) in
           let w = sectionAfter (levelNow (s .level)) (above (s .dsv)) (below (s .dsv)) frames control in
-          let q : _≡_ {A = chosen.Written} (record { bits = unpack o; level = t′ .level; plus = t′ .plus; minus = t′ .minus }) w
+          let q : _≡_ {A = Written} (record { bits = unpack o; level = t′ .level; plus = t′ .plus; minus = t′ .minus }) w
           = d .is ∙ ap (λ (x : Trace). sectionAfter (x .level) (x .plus) (x .minus) frames control) b in
-          ap₂ (stepped (done [])) (a ∙ ap (λ (x : chosen.Written). advanced (x .level) (x .plus) (x .minus) (s .sections)) q)
-          (packed 7203 o (w .bits) y z (ap (λ (x : chosen.Written). x .bits) q))
+          ap₂ (stepped (done [])) (a ∙ ap (λ (x : Written). advanced (x .level) (x .plus) (x .minus) (s .sections)) q)
+          (packed 7203 o (w .bits) y z (ap (λ (x : Written). x .bits) q))
           ∙ (λ i. stepped (sym e i) (keeps (sym e i) (afterSection s (section s frames control)) s) (leaves (sym e i) 7203 (pack 7203 (section s frames control .bits)) out))

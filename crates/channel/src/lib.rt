@@ -18,7 +18,7 @@ pub struct SectionWriter {
 }
 
 // What writing a Section answers.
-pub enum Written {
+pub enum SectionWritten {
     Done,
     WrongIncoming,
     WrongOutgoing,
@@ -29,7 +29,7 @@ pub enum Written {
 // The state after a step, and what the step answers.
 pub struct Step {
     pub next: SectionWriter,
-    pub answer: Written,
+    pub answer: SectionWritten,
 }
 
 impl SectionWriter {
@@ -52,20 +52,20 @@ impl SectionWriter {
             outcome::wipe(out, 7203);
             return Step {
                 next: self,
-                answer: Written::WrongIncoming,
+                answer: SectionWritten::WrongIncoming,
             };
         }
         if control.len() != 96 {
             outcome::wipe(out, 7203);
             return Step {
                 next: self,
-                answer: Written::WrongIncoming,
+                answer: SectionWritten::WrongIncoming,
             };
         }
         if out.len() != 7203 {
             return Step {
                 next: self,
-                answer: Written::WrongOutgoing,
+                answer: SectionWritten::WrongOutgoing,
             };
         }
         if state::state_right(self) {
@@ -76,19 +76,19 @@ impl SectionWriter {
                 let next = state::advance(after, sections);
                 return Step {
                     next: next,
-                    answer: Written::Done,
+                    answer: SectionWritten::Done,
                 };
             }
             outcome::clear(out);
             return Step {
                 next: self,
-                answer: Written::DiscFull,
+                answer: SectionWritten::DiscFull,
             };
         }
         outcome::clear(out);
         Step {
             next: self,
-            answer: Written::ImpossibleState,
+            answer: SectionWritten::ImpossibleState,
         }
     }
 }

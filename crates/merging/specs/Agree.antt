@@ -3,14 +3,12 @@
 use mathlib.Core.Path.{_≡_, refl, sym, ap, ap₂, _∙_, subst}
 use mathlib.Core.Bool.{Bool, true, false, cond, not, _&&_, _||_}
 use mathlib.Core.List.{List, [], _∷_, _++_}
-use Prim.Native.Nat.{ℕ, zero, suc, _+_, _≤_, _<_, suc-le-suc}
-use native.Mathlib.Nat.{add-zero}
+use Prim.Native.Nat.{ℕ, _+_, _≤_, _<_, suc-le-suc}
 use native.Mathlib.Omega.{arith}
 use borrow.Author.Tests.{eqb-true, eqb-false, eq-eqb, ne-eqb}
 use lib.Dec.{T, eqb, ltb}
 use lib.ListN.{length}
 use Rattle.outcome.specs.Table.{and-left, and-right}
-use Rattle.words.specs.Runs.{gaps, runs}
 use Rattle.merging.specs.Rule.{header, starts, headers, allowed}
 use Rattle.merging.specs.Automaton.{steps, live, shown, start22}
 use Rattle.merging.specs.Chosen.{better, beforeWord, beforeHeader, m100, m010, m001, m000}

@@ -2,7 +2,7 @@
 -- stand before that ONE, after another ONE. 22: the rule is broken, by fewer than two or more than ten ZEROs between ONEs, or by a third ONE
 -- after two runs of ten ZEROs, which begins a Sync Header's end.
 -- Assumes nothing.
-use mathlib.Core.Bool.{Bool, true, false, cond, not}
+use mathlib.Core.Bool.{Bool, cond, not}
 use mathlib.Core.List.{List, [], _∷_, _++_}
 use Prim.Native.Nat.{ℕ, zero, suc, _+_, _-_, _%_}
 use lib.Dec.{eqb, leb, ltb}

@@ -1,12 +1,12 @@
 -- Where Sync Headers stand: at their own places, every 588 bits, and nowhere else.
 -- Assumes nothing.
-use mathlib.Core.Path.{_≡_, refl, sym, ap, ap₂, _∙_, subst}
-use mathlib.Core.Bool.{Bool, true, false, not, _&&_}
+use mathlib.Core.Path.{_≡_, refl, sym, ap, _∙_, subst}
+use mathlib.Core.Bool.{Bool, true, not, _&&_}
 use mathlib.Core.List.{List, [], _∷_, _++_, append-assoc, append-nil}
-use Prim.Native.Nat.{ℕ, zero, suc, _+_, _-_, _≤_, _<_, _%_}
+use Prim.Native.Nat.{ℕ, zero, suc, _<_}
 use native.Mathlib.Omega.{arith}
-use lib.Dec.{T, eqb}
-use lib.ListN.{length, drop}
+use lib.Dec.{T}
+use lib.ListN.{length}
 use Rattle.merging.specs.Rule.{header, starts}
 use Rattle.merging.specs.Automaton.{step, steps, live, shown, start22}
 use Rattle.merging.specs.Cases.{Each, case, Binary}

@@ -1,10 +1,10 @@
 -- What the choice needs to know of a word: its ZEROs before the first ONE, where the automaton stands after it, its levels; and the rows of eight
 -- bytes that hold this for the 256 words and both SYNCs.
 -- Assumes nothing.
-use mathlib.Core.Path.{_≡_, refl, sym, ap, _∙_}
-use mathlib.Core.Bool.{Bool, true, false, cond, _&&_}
+use mathlib.Core.Path.{_≡_, refl, ap, _∙_}
+use mathlib.Core.Bool.{Bool, cond, _&&_}
 use mathlib.Core.List.{List, [], _∷_, _++_}
-use Prim.Native.Nat.{ℕ, zero, suc, _+_, _-_, _*_, _/_, _%_, _≤_, _<_, _^_}
+use Prim.Native.Nat.{ℕ, zero, suc, _+_, _*_, _/_, _%_, _≤_, _<_, _^_}
 use native.Mathlib.Nat.{not-suc-le-zero, le-of-suc-le-suc}
 use native.Mathlib.Omega.{arith}
 use lib.Dec.{T, eqb, ltb, leb, eqb→eq, ltb→lt, leb→le}
@@ -12,7 +12,7 @@ use lib.ListN.{length, getD, List·getD-append}
 use lib.Seq.{getD-append-add}
 use Rattle.outcome.specs.Table.{allBelow, below, and-left, and-right}
 use Rattle.bits.specs.Bits.{bitsOf}
-use Rattle.words.specs.Words.{words, wordOf, sync0, sync1}
+use Rattle.words.specs.Words.{words, sync0, sync1}
 use Rattle.words.specs.Every.{every, each}
 use Rattle.merging.specs.declared.Profile.{Profile}
 use Rattle.merging.specs.Dsv.{ups, levelAfter}

@@ -1,7 +1,7 @@
 -- Where a writer stands between words: at most eight ZEROs stand since the last ONE. What is asked of a word and of a Sync Header there: that the
 -- automaton and the rule agree on all Merging bits, that some are allowed, and that what is allowed leads to such a place again.
 -- Assumes nothing.
-use mathlib.Core.Bool.{Bool, true, false, cond, not, _&&_, _||_}
+use mathlib.Core.Bool.{Bool, cond, not, _&&_, _||_}
 use mathlib.Core.List.{List, _++_}
 use Prim.Native.Nat.{ℕ, _%_}
 use lib.Dec.{eqb, leb, ltb}

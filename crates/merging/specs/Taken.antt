@@ -1,6 +1,6 @@
 -- Every word may come wherever a writer stands, and so may a Sync Header; SYNC 0 and SYNC 1 may come after a Sync Header: one test each, computed.
 -- Assumes nothing.
-use mathlib.Core.Bool.{Bool, true, false, cond, _&&_}
+use mathlib.Core.Bool.{Bool, true, false, cond}
 use mathlib.Core.List.{List}
 use Prim.Native.Nat.{ℕ, _<_, _%_}
 use lib.Dec.{T, leb, ltb, ltb→lt}

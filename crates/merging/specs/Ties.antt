@@ -3,12 +3,11 @@
 use mathlib.Core.Path.{_≡_, refl, sym, ap, ap₂, _∙_, subst}
 use mathlib.Core.Bool.{Bool, true, false, not}
 use mathlib.Core.List.{List, [], _∷_, _++_, append-assoc, append-nil}
-use Prim.Native.Nat.{ℕ, zero, suc, _+_, _≤_, _<_, _%_}
-use native.Mathlib.Nat.{not-suc-le-zero, add-zero}
+use Prim.Native.Nat.{ℕ, zero, suc, _+_, _<_, _%_}
+use native.Mathlib.Nat.{add-zero}
 use native.Mathlib.Omega.{arith}
 use borrow.Author.Tests.{eqb-true}
-use lib.Dec.{T, eqb, leb→le}
-use Rattle.outcome.specs.Table.{allBelow, below, of-true}
+use lib.Dec.{T, eqb}
 use Rattle.words.specs.Runs.{gaps, runs}
 use Rattle.merging.specs.Rule.{header, headers}
 use Rattle.merging.specs.Automaton.{step, steps, live, shown, start22}

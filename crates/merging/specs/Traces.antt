@@ -11,7 +11,7 @@ use Rattle.bits.specs.Bits.{bitsOf}
 use Rattle.merging.specs.declared.Trace.{Trace}
 use Rattle.merging.specs.declared.Choice.{Choice}
 use Rattle.merging.specs.Dsv.{flip, levelAfter, ups, downs, absolute}
-use Rattle.merging.specs.Automaton.{steps, live}
+use Rattle.merging.specs.Automaton.{steps}
 use Rattle.merging.specs.Chosen.{better, dsvAfter}
 use Rattle.merging.specs.Agree.{passes}
 

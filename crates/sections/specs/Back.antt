@@ -1,28 +1,27 @@
 -- What a writer makes of a Section a reader turns back into the same bytes: the words stand where a reader looks for them.
 -- Assumes nothing.
-use mathlib.Core.Path.{_≡_, refl, sym, ap, ap₂, _∙_, subst}
+use mathlib.Core.Path.{_≡_, refl, sym, ap, _∙_, subst}
 use mathlib.Core.Bool.{Bool, true, false, cond, not}
-use mathlib.Core.List.{List, [], _∷_, _++_, append-assoc, append-nil}
-use Prim.Native.Nat.{ℕ, zero, suc, _+_, _-_, _*_, _/_, _%_, _≤_, _<_, _^_}
+use mathlib.Core.List.{List, [], _∷_, _++_}
+use Prim.Native.Nat.{ℕ, zero, suc, _+_, _-_, _*_, _≤_, _<_, _^_}
 use native.Mathlib.Nat.{not-suc-le-zero, le-of-suc-le-suc, mod-eq-of-lt}
 use native.Mathlib.Omega.{arith}
-use borrow.Author.Tests.{eq-eqb, ne-eqb}
-use lib.Dec.{T, eqb}
+use borrow.Author.Tests.{eq-eqb}
+use lib.Dec.{eqb}
 use lib.ListN.{length, getD, take, drop, length-append, length-drop}
-use lib.Seq.{take-append-le, drop-append-le, drop-append-add, take-length, drop-drop, ext-getD}
+use lib.Seq.{take-append-le, drop-append-le, drop-append-add, take-length}
 use Rattle.outcome.specs.Bytes.{Bytes}
-use Rattle.outcome.specs.First.{First, found-first}
-use Rattle.outcome.specs.Table.{tabulated, tabulated-at, length-tabulated}
+use Rattle.outcome.specs.First.{found-first}
+use Rattle.outcome.specs.Table.{tabulated, tabulated-at}
 use Rattle.bits.specs.Bits.{bitsOf, number}
 use Rattle.bits.specs.Numbers.{length-bits, number-bits}
-use Rattle.words.specs.declared.Symbol.the-variants.{Byte, Unknown}
-use Rattle.words.specs.Facts.{word-14, byte-of-word, sync0-unknown, sync1-unknown}
-use Rattle.words.specs.Words.{wordOf, byteOf, sync0, sync1}
+use Rattle.words.specs.Facts.{word-14}
+use Rattle.words.specs.Words.{wordOf, sync0, sync1}
 use Rattle.merging.specs.Agree.{word-keeps}
-use Rattle.merging.specs.Chosen.{Written, after, dsvAfter, beforeWord, withWord, withHeader, withTail}
-use Rattle.merging.specs.Rule.{header, allowed}
+use Rattle.merging.specs.Chosen.{Written, dsvAfter, beforeWord, withWord, withHeader, withTail}
+use Rattle.merging.specs.Rule.{allowed}
 use Rattle.channel.specs.declared.SectionWriter.{SectionWriter}
-use Rattle.channel.specs.Reading.{fieldAt, headless, firstHeadless, wordRead, byteFor, markFor, byteRead, markRead, bytesRead, marksRead}
+use Rattle.channel.specs.Reading.{fieldAt, headless, firstHeadless, wordRead}
 use Rattle.channel.specs.Section.{wordAt, frameWords, withWords, withFrame, withFrames, sectionAfter}
 use Rattle.channel.specs.State.{above, below, levelNow}
 use Rattle.channel.specs.WriteSay.{section}

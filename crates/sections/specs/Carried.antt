@@ -1,17 +1,17 @@
 -- The state after a Section is one that a writer can be in, so that refusal 9 never meets a state that the writer made.
 -- Assumes nothing.
-use mathlib.Core.Path.{_≡_, refl, sym, ap, ap₂, _∙_, subst}
-use mathlib.Core.Bool.{Bool, true, false, _&&_}
+use mathlib.Core.Path.{_≡_, refl, sym, ap, _∙_, subst}
+use mathlib.Core.Bool.{Bool, true, _&&_}
 use mathlib.Core.List.{List, [], _∷_, _++_, append-assoc, append-nil}
 use mathlib.Core.Logic.{_⊎_, inl, inr}
 use Prim.Native.Nat.{ℕ, zero, suc, _+_, _-_, _*_, _≤_, _<_}
 use native.Mathlib.Omega.{arith}
 use borrow.Author.Tests.{lt-ltb, le-ltb, le-leb}
-use lib.Dec.{T, eqb, leb, leb→le, ltb}
+use lib.Dec.{leb, leb→le}
 use lib.IntN.{ℤ, pos, negsuc, natAbs, subℕ}
 use lib.ListN.{length, length-append}
 use Rattle.outcome.specs.First.{lt-or-le}
-use Rattle.outcome.specs.Table.{tabulated, and-left, and-right, of-true}
+use Rattle.outcome.specs.Table.{tabulated, and-right, of-true}
 use Rattle.bits.specs.Bits.{bitsOf}
 use Rattle.bits.specs.Numbers.{length-bits}
 use Rattle.merging.specs.Agree.{better-keeps, word-keeps}
@@ -19,10 +19,10 @@ use Rattle.merging.specs.Cases.{Binary, binary-append, binary-bits}
 use Rattle.merging.specs.Chosen.{Written, after, dsvAfter, beforeWord, beforeHeader, withWord, withHeader, withTail, m100, m000}
 use Rattle.merging.specs.Dsv.{levelAfter, ups, downs}
 use Rattle.merging.specs.Rule.{header, allowed}
-use Rattle.merging.specs.Traces.{ups-downs, level-le, level-append, ups-append, downs-append}
+use Rattle.merging.specs.Traces.{ups-downs, level-append, ups-append, downs-append}
 use Rattle.channel.specs.declared.SectionWriter.{SectionWriter}
 use Rattle.channel.specs.Section.{wordAt, frameWords, withWords, withFrame, withFrames, sectionAfter}
-use Rattle.channel.specs.State.{fresh, right, levelRight, above, below, levelNow, levelThen, advanced}
+use Rattle.channel.specs.State.{fresh, right, levelRight, above, below, levelNow, levelThen}
 use Rattle.channel.specs.WriteSay.{section, afterSection}
 
 -- w′ is w and n bits more

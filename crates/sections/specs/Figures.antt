@@ -2,18 +2,15 @@
 -- Assumes nothing.
 use mathlib.Core.Path.{_≡_, refl}
 use mathlib.Core.Bool.{Bool, true, false, not, cond, _&&_}
-use mathlib.Core.List.{List, [], _∷_, _++_}
+use mathlib.Core.List.{List, [], _++_}
 use Prim.Native.Nat.{ℕ}
-use lib.Dec.{T}
 use Rattle.outcome.specs.Table.{allBelow}
 use Rattle.bits.specs.Bits.{bitsOf}
-use Rattle.words.specs.Runs.{runs}
 use Rattle.words.specs.Words.{words, wordOf, sync0, sync1}
 use Rattle.merging.specs.Automaton.{step, steps, live, shown}
 use Rattle.merging.specs.Chosen.{Written, after, withHeader, m100, m010, m001, m000}
 use Rattle.merging.specs.Ready.{ruled}
 use Rattle.merging.specs.Rule.{header, headers, allowed}
-use Rattle.channel.specs.State.{fresh}
 
 -- (59) is 10000000000100
 pub figure-59 : wordOf 0x59 ≡ 0b10000000000100

@@ -2,22 +2,22 @@
 -- Assumes nothing.
 use mathlib.Core.Path.{_≡_, refl, sym, ap, _∙_, subst}
 use mathlib.Core.Bool.{Bool, true, false, cond}
-use mathlib.Core.List.{List, [], _∷_, _++_, append-assoc, append-nil}
-use Prim.Native.Nat.{ℕ, zero, suc, _+_, _-_, _*_, _≤_, _<_}
+use mathlib.Core.List.{List, [], _++_, append-assoc, append-nil}
+use Prim.Native.Nat.{ℕ, zero, suc, _+_, _-_, _*_}
 use native.Mathlib.Omega.{arith}
-use borrow.Author.Tests.{eq-eqb, ne-eqb}
+use borrow.Author.Tests.{ne-eqb}
 use lib.Dec.{T, eqb}
 use lib.ListN.{length, getD, length-append}
 use Rattle.outcome.specs.Bytes.{Bytes}
 use Rattle.outcome.specs.Table.{tabulated}
 use Rattle.bits.specs.Bits.{bitsOf}
 use Rattle.bits.specs.Numbers.{length-bits}
-use Rattle.words.specs.Runs.{gaps, runs}
+use Rattle.words.specs.Runs.{runs}
 use Rattle.words.specs.Words.{wordOf, sync0, sync1}
 use Rattle.merging.specs.Agree.{better-keeps, passes, Takes, taken, word-keeps, word-agrees, word-passes, word-ready, header-agrees, header-passes}
 use Rattle.merging.specs.Automaton.{steps, live, start22}
 use Rattle.merging.specs.Cases.{Binary, binary-append, binary-bits}
-use Rattle.merging.specs.Chosen.{Written, after, dsvAfter, better, beforeWord, beforeHeader, withWord, withHeader, withTail, m100, m000}
+use Rattle.merging.specs.Chosen.{Written, after, dsvAfter, beforeWord, beforeHeader, withWord, withHeader, withTail, m100, m000}
 use Rattle.merging.specs.Places.{placed, earlier, Placed, placed-more, placed-header, placed-whole}
 use Rattle.merging.specs.Ready.{ready}
 use Rattle.merging.specs.Rule.{header, allowed}

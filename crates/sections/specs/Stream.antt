@@ -2,12 +2,12 @@
 -- Headers stand exactly at the multiples of 588 bits.
 -- Assumes nothing.
 use mathlib.Core.Path.{_≡_, refl, sym, ap, _∙_, subst}
-use mathlib.Core.Bool.{Bool, true, false, not, _&&_}
+use mathlib.Core.Bool.{Bool, true, false, not}
 use mathlib.Core.List.{List, [], _∷_, _++_, append-assoc, append-nil}
-use Prim.Native.Nat.{ℕ, zero, suc, _+_, _-_, _%_, _≤_, _<_}
+use Prim.Native.Nat.{ℕ, zero, suc, _+_, _-_, _%_, _<_}
 use native.Mathlib.Nat.{not-suc-le-zero, le-of-suc-le-suc}
 use native.Mathlib.Omega.{arith}
-use borrow.Author.Tests.{eq-eqb, ne-eqb}
+use borrow.Author.Tests.{ne-eqb}
 use lib.Dec.{T, eqb}
 use lib.ListN.{length, drop}
 use Rattle.outcome.specs.Bytes.{Bytes}
@@ -18,9 +18,9 @@ use Rattle.merging.specs.Rule.{header, starts}
 use Rattle.merging.specs.Ties.{tied-first}
 use Rattle.channel.specs.declared.SectionWriter.{SectionWriter}
 use Rattle.channel.specs.Section.{sectionAfter}
-use Rattle.channel.specs.State.{fresh, above, below, levelNow}
+use Rattle.channel.specs.State.{above, below, levelNow}
 use Rattle.channel.specs.WriteSay.{section, afterSection}
-use Rattle.sections.specs.Runs.{Opens, Opening, run-frames}
+use Rattle.sections.specs.Runs.{Opens, run-frames}
 
 -- what a Section is made of
 pub record Part : Type 0 where

@@ -1,32 +1,31 @@
 -- THERE AND BACK: what `write` makes of 98 frames and 96 Control bytes `read_section` turns back into the same bytes, with marks 2 and 3 at the two
 -- SYNCs and 0 elsewhere.
 -- Assumes nothing.
-use mathlib.Core.Path.{_≡_, refl, sym, ap, ap₂, _∙_, subst}
-use mathlib.Core.Bool.{Bool, true, false, cond, _&&_}
-use mathlib.Core.List.{List, [], _∷_, _++_}
-use Prim.Native.Nat.{ℕ, zero, suc, _+_, _-_, _*_, _/_, _%_, _≤_, _<_}
+use mathlib.Core.Path.{_≡_, refl, sym, ap, _∙_, subst}
+use mathlib.Core.Bool.{Bool, true, false, cond}
+use mathlib.Core.List.{List, []}
+use Prim.Native.Nat.{ℕ, _+_, _-_, _*_, _/_, _%_, _<_}
 use native.Mathlib.Omega.{arith}
 use borrow.Author.Tests.{eq-eqb, lt-ltb}
-use lib.Dec.{eqb, ltb}
+use lib.Dec.{eqb}
 use lib.ListN.{length, getD}
 use lib.Seq.{ext-getD}
 use Rattle.outcome.specs.Bytes.{Bytes}
 use Rattle.outcome.specs.Say.{done}
 use Rattle.outcome.specs.Table.{tabulated, tabulated-at, length-tabulated}
-use Rattle.bits.specs.Bits.{bitsOf, unpack, pack}
+use Rattle.bits.specs.Bits.{unpack, pack}
 use Rattle.words.specs.declared.Symbol.{Symbol}
-use Rattle.words.specs.declared.Symbol.the-variants.{Byte, Unknown}
 use Rattle.words.specs.Facts.{byte-of-word, sync0-unknown, sync1-unknown}
 use Rattle.words.specs.Words.{wordOf, byteOf, sync0, sync1}
 use Rattle.merging.specs.Cases.{Binary}
 use Rattle.channel.specs.declared.SectionWriter.{SectionWriter}
 use Rattle.channel.specs.ReadSay.{readOut, readSay, sectionRead}
-use Rattle.channel.specs.Reading.{wordRead, byteFor, markFor, byteRead, markRead, bytesRead, marksRead, firstHeadless}
+use Rattle.channel.specs.Reading.{byteFor, markFor, byteRead, markRead, bytesRead, marksRead}
 use Rattle.channel.specs.Section.{wordAt, withFrames, sectionAfter}
 use Rattle.channel.specs.State.{right, above, below, levelNow}
 use Rattle.channel.specs.WriteSay.{section, written, writeSay}
 use Rattle.merging.specs.Chosen.{Written}
-use Rattle.sections.specs.Carried.{Grown, grown-frames}
+use Rattle.sections.specs.Carried.{grown-frames}
 use Rattle.sections.specs.Unpacked.{unpack-pack, length-pack}
 use Rattle.sections.specs.Back.{every-header, every-word}
 

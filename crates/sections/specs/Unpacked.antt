@@ -1,13 +1,12 @@
 -- Bits packed into bytes and unpacked are the same bits.
 -- Assumes nothing.
-use mathlib.Core.Path.{_≡_, refl, sym, ap, ap₂, _∙_, subst}
+use mathlib.Core.Path.{_≡_, refl, sym, ap, ap₂, _∙_}
 use mathlib.Core.List.{List, [], _∷_, _++_}
-use Prim.Native.Nat.{ℕ, zero, suc, _+_, _-_, _*_, _/_, _%_, _≤_, _<_, _^_}
-use native.Mathlib.Nat.{pow-suc, add-mul, mul-assoc, mul-comm, zero-mul, one-mul}
+use Prim.Native.Nat.{ℕ, zero, suc, _+_, _*_, _<_, _^_}
+use native.Mathlib.Nat.{pow-suc, add-mul, mul-assoc, mul-comm, zero-mul}
 use native.Mathlib.Omega.{arith}
 use lib.Arith.{digits-lt}
-use lib.Pow.{pow-pos}
-use lib.ListN.{length, take, drop, take-append-drop, length-take, length-drop}
+use lib.ListN.{length, take, drop, take-append-drop, length-drop}
 use lib.Seq.{length-take-le}
 use Rattle.bits.specs.Bits.{bitsOf, number, unpack, pack}
 use Rattle.bits.specs.Numbers.{bits-join}

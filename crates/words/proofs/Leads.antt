@@ -1,13 +1,10 @@
 -- The guide of src/table.rt as a list: under the remainder of its word each byte is found, by one test over all 256.
 -- Assumes nothing.
-use mathlib.Core.Path.{_≡_, refl}
 use mathlib.Core.Bool.{Bool}
 use mathlib.Core.List.{List, [], _∷_}
-use Prim.Native.Nat.{ℕ, zero, suc, _<_, _%_}
-use native.Mathlib.Omega.{arith}
-use native.Mathlib.Nat.{le-of-suc-le-suc}
+use Prim.Native.Nat.{ℕ, suc, _%_}
 use lib.Dec.{T, eqb, ltb, eqb→eq, ltb→lt}
-use lib.ListN.{length, getD}
+use lib.ListN.{getD}
 use Rattle.outcome.specs.Bytes.{Bytes, bytes-nil, bytes-cons}
 use Rattle.outcome.specs.Table.{allBelow, below, and-left, and-right}
 use Rattle.words.specs.Words.{words, wordOf}

@@ -9,7 +9,6 @@ use borrow.Author.Tests.{lt-ltb, ne-eqb, eqb-true, eqb-false}
 use lib.Dec.{T, eqb, ltb, ltb→lt, eqb→eq, T-not, eqb-refl}
 use lib.ListN.{length, getD}
 use Rattle.bits.specs.Bits.{bitsOf}
-use Rattle.words.specs.declared.Symbol.{Symbol}
 use Rattle.words.specs.declared.Symbol.the-variants.{Byte, Unknown}
 use Rattle.words.specs.Words.{words, wordOf, sync0, sync1, placeOf, symbolAt, byteOf}
 use Rattle.words.specs.Every.{every, each}

@@ -1,6 +1,6 @@
 -- The 8-to-14 code of Annex D: a word of 14 Channel bits for each byte, with document 01's corrections for (48) to (6A).
 -- Assumes nothing.
-use mathlib.Core.Bool.{Bool, true, false, cond}
+use mathlib.Core.Bool.{cond}
 use mathlib.Core.List.{List, [], _∷_}
 use Prim.Native.Nat.{ℕ, suc}
 use lib.Dec.{eqb, ltb}

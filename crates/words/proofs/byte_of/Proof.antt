@@ -1,6 +1,6 @@
 -- `words::byte_of` meets its contract: what the guide finds in the table of Annex D is the byte (`looked-up`).
 -- Assumes nothing.
-use mathlib.Core.Path.{_≡_, ap, sym, _∙_}
+use mathlib.Core.Path.{ap, _∙_}
 use mathlib.Core.List.{List}
 use Prim.Native.Nat.{ℕ}
 use Rattle.words.specs.LookUp.{lookedUp}

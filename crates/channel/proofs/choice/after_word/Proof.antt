@@ -1,6 +1,6 @@
 -- `channel::choice::after_word` meets its contract, by its test.
 -- Assumes nothing.
-use borrow.Author.Tests.{eq-eqb, ne-eqb, lt-ltb, le-ltb}
+use borrow.Author.Tests.{eq-eqb, ne-eqb}
 use borrow.Author.Needs.{needs}
 use Rattle.channel.proofs.choice.after_word.Statement.{statement}
 use Rattle.channel.proofs.choice.after_word.Tie as tie

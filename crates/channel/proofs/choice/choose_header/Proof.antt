@@ -1,6 +1,6 @@
 -- `channel::choice::choose_header` meets its contract: the better of two choices stands for the better of their Merging bits (`header-chosen`).
 -- Assumes nothing.
-use mathlib.Core.Path.{_≡_, sym, ap, ap₂, _∙_, subst}
+use mathlib.Core.Path.{sym, ap, ap₂, _∙_, subst}
 use Prim.Native.Nat.{ℕ}
 use Rattle.merging.specs.declared.Choice.{Choice}
 use Rattle.merging.specs.declared.Trace.{Trace}
@@ -9,7 +9,8 @@ use Rattle.merging.specs.Automaton.{start22}
 use Rattle.merging.specs.Chosen.{beforeHeader}
 use Rattle.merging.specs.Rule.{header}
 use Rattle.merging.specs.Traces.{betterOf, spent, traceDsv}
-use Rattle.channel.specs.Options.{HeadStands, header-chosen}
+use Rattle.channel.specs.Options.{HeadStands}
+use Rattle.channel.specs.Ways.{header-chosen}
 use borrow.Author.Needs.{needs}
 use Rattle.channel.proofs.choice.choose_header.Statement.{statement}
 use Rattle.channel.proofs.choice.choose_header.Tie as tie

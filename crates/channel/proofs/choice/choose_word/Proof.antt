@@ -1,12 +1,12 @@
 -- `channel::choice::choose_word` meets its contract: the better of two choices stands for the better of their Merging bits (`word-chosen`).
 -- Assumes nothing.
-use mathlib.Core.Path.{_≡_, sym, ap, _∙_, subst}
+use mathlib.Core.Path.{sym, ap, _∙_, subst}
 use Rattle.bits.specs.Bits.{bitsOf}
 use Rattle.merging.specs.declared.Choice.{Choice}
 use Rattle.merging.specs.Agree.{passes}
 use Rattle.merging.specs.Chosen.{beforeWord}
 use Rattle.merging.specs.Traces.{betterOf, Stands, traceDsv}
-use Rattle.channel.specs.Options.{word-chosen}
+use Rattle.channel.specs.Ways.{word-chosen}
 use borrow.Author.Needs.{needs}
 use Rattle.channel.proofs.choice.choose_word.Statement.{statement}
 use Rattle.channel.proofs.choice.choose_word.Tie as tie

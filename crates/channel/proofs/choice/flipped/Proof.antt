@@ -1,6 +1,6 @@
 -- `channel::choice::flipped` meets its contract, by its test.
 -- Assumes nothing.
-use borrow.Author.Tests.{eq-eqb, ne-eqb, lt-ltb, le-ltb}
+use borrow.Author.Tests.{eq-eqb, ne-eqb}
 use borrow.Author.Needs.{needs}
 use Rattle.channel.proofs.choice.flipped.Statement.{statement}
 use Rattle.channel.proofs.choice.flipped.Tie as tie

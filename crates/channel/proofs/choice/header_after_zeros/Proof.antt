@@ -1,6 +1,6 @@
 -- `channel::choice::header_after_zeros` meets its contract, by its test.
 -- Assumes nothing.
-use borrow.Author.Tests.{eq-eqb, ne-eqb, lt-ltb, le-ltb}
+use borrow.Author.Tests.{lt-ltb, le-ltb}
 use Rattle.channel.proofs.choice.header_after_zeros.Statement.{statement}
 use Rattle.channel.proofs.choice.header_after_zeros.Tie as tie
 

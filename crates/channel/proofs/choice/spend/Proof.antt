@@ -1,6 +1,6 @@
 -- `channel::choice::spend` meets its contract: `spent` goes by the same tests.
 -- Assumes nothing.
-use borrow.Author.Tests.{eq-eqb, ne-eqb, lt-ltb, le-ltb}
+use borrow.Author.Tests.{eq-eqb, ne-eqb}
 use Rattle.merging.specs.Traces.{spent}
 use borrow.Author.Needs.{needs}
 use Rattle.channel.proofs.choice.spend.Statement.{statement}

@@ -1,11 +1,12 @@
 -- `channel::choice::with_one` meets its contract: the numbers that it hands to `spend` are those of the Merging bits and the word (`one-stands`).
 -- Assumes nothing.
-use mathlib.Core.Path.{_≡_, sym, ap, ap₂, _∙_, subst}
+use mathlib.Core.Path.{sym, ap, ap₂, _∙_, subst}
 use Prim.Native.Nat.{ℕ, _+_, _-_, _*_}
 use Rattle.bits.specs.Bits.{bitsOf}
 use Rattle.merging.specs.declared.Trace.{Trace}
 use Rattle.merging.specs.Traces.{spent, Stands}
-use Rattle.channel.specs.Options.{oneAfter, afterWord, one-stands}
+use Rattle.channel.specs.Options.{oneAfter, afterWord}
+use Rattle.channel.specs.Ways.{one-stands}
 use borrow.Author.Needs.{needs}
 use Rattle.channel.proofs.choice.with_one.Statement.{statement}
 use Rattle.channel.proofs.choice.with_one.Tie as tie

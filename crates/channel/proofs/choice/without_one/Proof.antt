@@ -1,12 +1,13 @@
 -- `channel::choice::without_one` meets its contract: the numbers that it hands to `spend` are those of 000 and the word (`zeros-stand`).
 -- Assumes nothing.
-use mathlib.Core.Path.{_≡_, sym, ap, ap₂, _∙_, subst}
-use Prim.Native.Nat.{ℕ, _+_, _-_, _*_}
+use mathlib.Core.Path.{sym, ap, _∙_, subst}
+use Prim.Native.Nat.{ℕ, _+_, _-_}
 use Rattle.bits.specs.Bits.{bitsOf}
 use Rattle.merging.specs.declared.Trace.{Trace}
 use Rattle.merging.specs.Chosen.{m000}
 use Rattle.merging.specs.Traces.{spent, Stands}
-use Rattle.channel.specs.Options.{afterWord, zeros-stand}
+use Rattle.channel.specs.Options.{afterWord}
+use Rattle.channel.specs.Ways.{zeros-stand}
 use borrow.Author.Needs.{needs}
 use Rattle.channel.proofs.choice.without_one.Statement.{statement}
 use Rattle.channel.proofs.choice.without_one.Tie as tie

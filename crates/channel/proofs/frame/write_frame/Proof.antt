@@ -1,6 +1,6 @@
 -- `channel::frame::write_frame` meets its contract: a Sync Header, the words, and the Merging bits before the next one make a frame (`frame-done`).
 -- Assumes nothing.
-use Rattle.channel.specs.Writes.{frame-done}
+use Rattle.channel.specs.Going.{frame-done}
 use borrow.Author.Needs.{needs}
 use Rattle.channel.proofs.frame.write_frame.Statement.{statement}
 use Rattle.channel.proofs.frame.write_frame.Tie as tie

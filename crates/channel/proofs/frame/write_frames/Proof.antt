@@ -5,7 +5,7 @@ use Prim.Native.Nat.{_-_}
 use mathlib.Core.Path.{sym, _∙_}
 use native.Mathlib.Omega.{arith}
 use borrow.Author.Needs.{needs}
-use Rattle.channel.specs.Writes.{FramesGoing, frames-start, frames-between, frames-more, frames-all}
+use Rattle.channel.specs.Going.{FramesGoing, frames-start, frames-between, frames-more, frames-all}
 use Rattle.channel.proofs.frame.write_frames.Statement.{statement}
 use Rattle.channel.proofs.frame.write_frames.Tie as tie
 

@@ -5,7 +5,7 @@ use Prim.Native.Nat.{_-_}
 use mathlib.Core.Path.{sym, _∙_}
 use native.Mathlib.Omega.{arith}
 use borrow.Author.Needs.{needs}
-use Rattle.channel.specs.Writes.{WordsGoing, words-start, words-more, words-all}
+use Rattle.channel.specs.Going.{WordsGoing, words-start, words-more, words-all}
 use Rattle.channel.proofs.frame.write_words.Statement.{statement}
 use Rattle.channel.proofs.frame.write_words.Tie as tie
 

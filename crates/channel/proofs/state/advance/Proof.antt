@@ -1,6 +1,6 @@
 -- `channel::state::advance` meets its contract: the DSV and the level are in range, so that they are carried as they are.
 -- Assumes nothing.
-use mathlib.Core.Path.{_≡_, ap, _∙_}
+use mathlib.Core.Path.{ap, _∙_}
 use Prim.Native.Nat.{_+_}
 use lib.IntN.{ℤ, subℕ}
 use mir.Val.{SFits, toZ, ofZ}

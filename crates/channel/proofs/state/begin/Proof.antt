@@ -1,6 +1,6 @@
 -- `channel::state::begin` meets its contract: a DSV that is right is in range (`right-below`).
 -- Assumes nothing.
-use mathlib.Core.Path.{_≡_, ap, _∙_}
+use mathlib.Core.Path.{ap, _∙_}
 use native.Mathlib.Omega.{arith}
 use mir.Val.{SFits}
 use mir.ValLaws.{toZ-ofZ}

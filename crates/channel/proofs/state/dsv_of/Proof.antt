@@ -1,9 +1,8 @@
 -- `channel::state::dsv_of` meets its contract, by the sign of its number (`Signed`).
 -- Assumes nothing.
-use mathlib.Core.Path.{_≡_}
-use Prim.Native.Nat.{_^_, _<_, _-_, suc}
+use Prim.Native.Nat.{_-_, suc}
 use native.Mathlib.Omega.{arith}
-use lib.IntN.{pos, negsuc, _-ℤ_}
+use lib.IntN.{negsuc}
 use mir.Val.{SFits}
 use mir.ValLaws.{toZ-ofZ, toZ-pos}
 use mir.Syntax.{w64}
