@@ -5,3 +5,4 @@ pub mod Figures
 pub mod Back
 pub mod Unpacked
 pub mod ThereAndBack
+pub mod One
