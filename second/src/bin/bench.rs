@@ -1,6 +1,9 @@
 //! The benchmark: the time of each work as a ratio to the unit, one pass of a byte-table CRC-32 over 2,352 bytes, in the
 //! same run. A round times the unit and every work once, so that a slow spell meets all of them; medians are compared.
+//! With the argument `--strict` it fails where a work takes more than its target.
 
+use second::proved;
+use second::random::Random;
 use std::hint::black_box;
 use std::time::{Duration, Instant};
 
@@ -73,12 +76,59 @@ impl Work {
 
 /// The unit first, then what is held against it.
 fn works() -> Vec<Work> {
-    let sector: Vec<u8> = (0..2352).map(|n| (n * 7) as u8).collect();
+    let sector = Random::new(1).bytes(2352);
     let crc = Crc::new();
-    let unit = move || {
-        black_box(crc.pass(black_box(&sector)));
+    let unit = {
+        let sector = sector.clone();
+        move || {
+            black_box(crc.pass(black_box(&sector)));
+        }
     };
-    vec![Work::new("unit: CRC-32 by a byte table, 2,352 bytes", None, unit)]
+    let mut works = vec![Work::new("unit: CRC-32 by a byte table, 2,352 bytes", None, unit)];
+    works.extend(edc(&sector));
+    works.extend(frames(&sector));
+    works
+}
+
+fn edc(sector: &[u8]) -> Vec<Work> {
+    let sector = sector.to_vec();
+    let once = move || {
+        black_box(proved::edc_remainder(black_box(&sector)));
+    };
+    vec![Work::new("EDC of 2,352 bytes", Some(1.3), once)]
+}
+
+fn frames(sector: &[u8]) -> Vec<Work> {
+    type Step = fn(&[u8], &mut [u8]) -> u64;
+    let steps: [(&'static str, Step); 3] = [
+        ("scramble a Sector", proved::scramble),
+        ("cut a Sector", proved::cut),
+        ("join its frames", proved::join),
+    ];
+    let work = |(name, step): (&'static str, Step)| {
+        let (sector, mut out) = (sector.to_vec(), vec![0; 2352]);
+        let once = move || {
+            assert_eq!(step(black_box(&sector), black_box(&mut out)), 0);
+        };
+        Work::new(name, Some(0.1), once)
+    };
+    steps.map(work).into()
+}
+
+/// Whether every work keeps to its target.
+fn print(works: &[Work]) -> bool {
+    let unit = works[0].median();
+    println!("one unit is {:.2} µs, the median of {ROUNDS} rounds", unit * 1e6);
+    println!("{:>8} {:>8}  work", "units", "at most");
+    let mut kept = true;
+    for work in works {
+        let units = work.median() / unit;
+        let most = work.most.map_or(String::new(), |most| format!("{most:.2}"));
+        let slow = work.most.is_some_and(|most| units > most);
+        println!("{units:>8.2} {most:>8}  {}{}", work.name, if slow { ": too slow" } else { "" });
+        kept &= !slow;
+    }
+    kept
 }
 
 fn main() {
@@ -89,12 +139,9 @@ fn main() {
             work.times.push(time);
         }
     }
-    let unit = works[0].median();
-    println!("one unit is {:.2} µs, the median of {ROUNDS} rounds", unit * 1e6);
-    println!("{:>8} {:>8}  work", "units", "at most");
-    for work in &works {
-        let most = work.most.map_or(String::new(), |most| format!("{most:.2}"));
-        println!("{:>8.2} {most:>8}  {}", work.median() / unit, work.name);
+    let kept = print(&works);
+    if !kept && std::env::args().any(|argument| argument == "--strict") {
+        std::process::exit(1);
     }
 }
 
