@@ -8,12 +8,13 @@ use lib.Bits.{bitXor}
 use lib.ListN.{length, getD, take, drop, length-take, length-drop, take-append-drop}
 use lib.Seq.{getD-take, getD-drop, drop-drop}
 use Rattle.outcome.specs.Bytes.{Bytes, bytes-take, bytes-drop}
+use Rattle.xor.specs.Lists.{added, length-added, bytes-added}
 use Rattle.field.specs.Field.{power, mul}
 use Rattle.codeword.specs.Code.{sum, sums}
 use Rattle.codeword.specs.Parity.{WithSums, Parity}
 use Rattle.codeword.specs.ParityLaws.{parity-behind, parity-added, power-back}
 use Rattle.codeword.proofs.Listed.{four-listed}
-use Rattle.codeword.specs.Sums.{times-0, sum-lt, added, length-added, bytes-added}
+use Rattle.codeword.specs.Sums.{times-0, sum-lt}
 
 -- the sums s of w, each moved by a power
 module _ (w s : List ℕ) (h : Bytes w) (e : s ≡ sums 4 w) where
@@ -85,7 +86,6 @@ module _ (w s : List ℕ) (h : Bytes w) (e : s ≡ sums 4 w) where
     pub added-there : (q : List ℕ) → length q ≡ 4
         → added there q
         ≡ bitXor (getD w 12 0) (getD q 0 0) ∷ bitXor (getD w 13 0) (getD q 1 0) ∷ bitXor (getD w 14 0) (getD q 2 0) ∷ bitXor (getD w 15 0) (getD q 3 0) ∷ []
-    unfolding added
     added-there q l = ap₂ added (four-listed there there-long) (four-listed q l) ∙ simp (there-at 0 (omega arith), there-at 1 (omega arith), there-at 2 (omega arith), there-at 3 (omega arith))
       where
         there-at : (i : ℕ) → i < 4 → getD there i 0 ≡ getD w (12 + i) 0

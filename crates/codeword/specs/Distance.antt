@@ -14,12 +14,13 @@ use lib.Dec.{eqb}
 use lib.ListN.{length, replicate}
 use Rattle.outcome.specs.Bytes.{Bytes}
 use Rattle.xor.specs.Laws.{xor-equal}
+use Rattle.xor.specs.Lists.{added, length-added, bytes-added}
 use Rattle.field.specs.Field.{power, mul}
 use Rattle.field.specs.Linear.{mul-zero-l}
 use Rattle.field.specs.Powers.{power-lt}
 use Rattle.field.specs.Laws.{mul-power-add}
 use Rattle.codeword.specs.Code.{sum, Codeword, changes}
-use Rattle.codeword.specs.Sums.{times-none, added, length-added, bytes-added, sum-added}
+use Rattle.codeword.specs.Sums.{times-none, sum-added}
 use Rattle.codeword.specs.Changes.{unlike-same, unlike-other, unlike-le}
 use Rattle.codeword.specs.Twist.{weight, zeros, head-zero, twist, length-twist, bytes-twist, weight-twist, sum-twist, untwist}
 
@@ -89,7 +90,7 @@ distance (suc J) = lighter J (distance J)
 -- ---- two words
 
 weight-added : (a b : List ℕ) → length a ≡ length b → weight (added a b) ≤ changes a b
-unfolding changes weight added
+unfolding changes weight
 weight-added [] b e = omega arith
 weight-added (x ∷ a) [] e = absurd (omega arith)
 weight-added (x ∷ a) (y ∷ b) e = go (ℕ-discrete x y) (weight-added a b (omega arith))
@@ -100,7 +101,6 @@ weight-added (x ∷ a) (y ∷ b) e = go (ℕ-discrete x y) (weight-added a b (om
 
 -- words whose sum is all zeros are equal
 pub added-zero : (a b : List ℕ) → length a ≡ length b → added a b ≡ replicate (length a) 0 → a ≡ b
-unfolding added
 added-zero [] [] e z = refl
 added-zero [] (y ∷ b) e z = absurd (omega arith)
 added-zero (x ∷ a) [] e z = absurd (omega arith)

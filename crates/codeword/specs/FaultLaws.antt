@@ -10,7 +10,7 @@ use native.Mathlib.Omega.{arith}
 use lib.Bits.{bitXor, xor-self}
 use lib.Dec.{eqb, ltb}
 use lib.ListN.{length, getD, set}
-use borrow.Author.Tests.{eq-eqb, ne-eqb, ltb-true}
+use borrow.Author.Tests.{eq-eqb, ne-eqb, le-ltb, ltb-true}
 use Rattle.outcome.specs.Bytes.{Bytes}
 use Rattle.outcome.specs.First.{firstBelow, first-below, found-first}
 use Rattle.outcome.specs.Table.{allBelow, length-tabulated, tabulated-at}
@@ -18,7 +18,8 @@ use Rattle.xor.specs.Laws.{xor-equal}
 use Rattle.field.specs.Field.{power, mul}
 use Rattle.codeword.specs.Code.{sum, sums, Codeword, Near}
 use Rattle.codeword.specs.Nearest.{isCodeword, placeBefore, newByte, changed, bytesAfter, verdict, mended, nearest}
-use Rattle.codeword.specs.NearestLaws.{nearest-sound, nearest-none}
+use Rattle.codeword.specs.NearestLaws.{nearest-sound, nearest-complete, nearest-none}
+use Rattle.codeword.specs.NearLaws.{test-of-code}
 use Rattle.codeword.specs.Fault.{allZero, fits, fault, cure}
 use Rattle.codeword.specs.Sums.{sum-set}
 use Rattle.codeword.specs.declared.Fault.{Fault}
@@ -125,3 +126,11 @@ module _ (J : ℕ) (w : List ℕ) (hb : Bytes w) (hj : 2 ≤ J) where
 
   pub fault-lost : length w ≤ 255 → fault (sums J w) (length w) ≡ faults.Lost → (c : List ℕ) → Near J w c → ⊥
   fault-lost k e = nearest-none J w hb hj k (nearest-by-sums J w (omega arith) ∙ ap (λ (x : Fault). mended w (cure w x)) e)
+
+  -- a codeword has no fault, and what is near is found
+  pub code-fault : length w ≤ 255 → Codeword J w → fault (sums J w) (length w) ≡ faults.Clean
+  unfolding fault
+  code-fault k c = rw (le-ltb 255 (length w) k, ← zero-code J w, test-of-code J w c)
+
+  pub fault-complete : length w ≤ 255 → (c : List ℕ) → Near J w c → mended w (cure w (fault (sums J w) (length w))) ≡ some c
+  fault-complete k c n = sym (nearest-by-sums J w (omega arith)) ∙ nearest-complete J w hb hj k c n

@@ -6,27 +6,23 @@ use Prim.Native.Nat.{ℕ, zero, suc, _*_, _<_}
 use native.Mathlib.Omega.{arith}
 use lib.Dec.{T}
 use lib.ListN.{length, replicate, length-replicate}
-use Rattle.outcome.specs.Bytes.{Bytes, bytes-nil, bytes-cons, bytes-append, bytes-replicate}
-use Rattle.outcome.specs.Table.{tabulated, length-tabulated, tabulated-at}
+use Rattle.outcome.specs.Bytes.{Bytes, bytes-append, bytes-replicate}
+use Rattle.outcome.specs.Table.{tabulated, length-tabulated, tabulated-at, bytes-tabulated}
+use Rattle.xor.specs.Lists.{added}
 use Rattle.field.specs.Field.{power, mul}
 use Rattle.field.specs.Laws.{mul-lt}
 use Rattle.codeword.specs.Code.{sum, Codeword}
-use Rattle.codeword.specs.Sums.{sum-lt, added}
+use Rattle.codeword.specs.Sums.{sum-lt}
 use Rattle.codeword.specs.Parity.{WithSums, Parity}
 use Rattle.codeword.specs.Forms.{Form, value, solves, solved}
 use Rattle.codeword.specs.Solve.{twoForms, two-solve, fourForms, four-solve}
 use Rattle.codeword.specs.ParityLaws.{parity-added, power-back}
 
 added-zeros : (n : ℕ) (q : List ℕ) → length q ≡ n → added (replicate n 0) q ≡ q
-unfolding added
 added-zeros zero [] e = refl
 added-zeros zero (y ∷ q) e = absurd (omega arith)
 added-zeros (suc n) [] e = absurd (omega arith)
 added-zeros (suc n) (y ∷ q) e = ap (λ (t : List ℕ). y ∷ t) (added-zeros n q (omega arith))
-
-bytes-tabulated : (f : ℕ → ℕ) (i n : ℕ) → ((k : ℕ) → f k < 256) → Bytes (tabulated f i n)
-bytes-tabulated f i zero h = bytes-nil
-bytes-tabulated f i (suc n) h = bytes-cons (f i) (tabulated f (suc i) n) (h i) (bytes-tabulated f (suc i) n h)
 
 module _ (fs : List Form) (s : T (solves fs)) (a b : List ℕ) (ha : Bytes a) (hb : Bytes b) where
   -- the word with zeros where the parity is to stand

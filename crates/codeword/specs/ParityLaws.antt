@@ -8,12 +8,13 @@ use lib.Bits.{bitXor, xor-self}
 use lib.ListN.{length, getD, replicate}
 use Rattle.outcome.specs.Bytes.{Bytes}
 use Rattle.xor.specs.Laws.{xor-cancel}
+use Rattle.xor.specs.Lists.{added, length-added, bytes-added}
 use Rattle.field.specs.Field.{power, mul}
 use Rattle.field.specs.Linear.{mul-one-r}
 use Rattle.field.specs.Powers.{power-zero, power-mod}
 use Rattle.field.specs.Laws.{mul-nonzero, mul-power-add}
 use Rattle.codeword.specs.Code.{sum, Codeword}
-use Rattle.codeword.specs.Sums.{times-0, sum-lt, sum-append, added, length-added, bytes-added, sum-part}
+use Rattle.codeword.specs.Sums.{times-0, sum-lt, sum-append, sum-part}
 use Rattle.codeword.specs.Changes.{unlike-le, changes-le}
 use Rattle.codeword.specs.Twist.{weight}
 use Rattle.codeword.specs.Distance.{distance, added-zero, same-sums}
@@ -27,7 +28,6 @@ weight-le [] = omega arith
 weight-le (x ∷ d) = omega (arith, unlike-le x 0, weight-le d)
 
 added-twice : (p q : List ℕ) → length p ≡ length q → added p (added p q) ≡ q
-unfolding added
 added-twice [] [] e = refl
 added-twice [] (y ∷ q) e = absurd (omega arith)
 added-twice (x ∷ p) [] e = absurd (omega arith)

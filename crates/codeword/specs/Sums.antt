@@ -10,6 +10,7 @@ use lib.Bits.{bitXor, xor-zero-r, xor-lt}
 use lib.ListN.{length, getD, set, take, length-append, length-set}
 use lib.Seq.{take-suc, take-all}
 use Rattle.outcome.specs.Bytes.{Bytes, bytes-nil, bytes-cons, bytes-take}
+use Rattle.xor.specs.Lists.{added, length-added, bytes-added}
 use Rattle.xor.specs.Laws.{xor-assoc, xor-swap, xor-right-comm}
 use Rattle.field.specs.Field.{power, mul}
 use Rattle.field.specs.Linear.{mul-xor, mul-zero-l, mul-one-r}
@@ -69,28 +70,10 @@ sum-step j w i h l p q =
 pub sum-all : (j : ℕ) (w : List ℕ) (i : ℕ) → length w ≤ i → sum j (take i w) ≡ sum j w
 sum-all j w i l = ap (sum j) (take-all i w l)
 
--- ---- two words of one length, added place by place
+-- ---- the sums are linear in two words of one length, added place by place
 
-unfoldable pub added : List ℕ → List ℕ → List ℕ
-added [] b = []
-added (x ∷ a) [] = []
-added (x ∷ a) (y ∷ b) = bitXor x y ∷ added a b
-
-pub length-added : (a b : List ℕ) → length a ≡ length b → length (added a b) ≡ length a
-unfolding added
-length-added [] b e = refl
-length-added (x ∷ a) [] e = absurd (omega arith)
-length-added (x ∷ a) (y ∷ b) e = ap suc (length-added a b (omega arith))
-
-pub bytes-added : (a b : List ℕ) → Bytes a → Bytes b → Bytes (added a b)
-unfolding added
-bytes-added [] b ha hb = bytes-nil
-bytes-added (x ∷ a) [] ha hb = bytes-nil
-bytes-added (x ∷ a) (y ∷ b) ha hb = bytes-cons (bitXor x y) (added a b) (xor-lt 8 x y (ha 0) (hb 0)) (bytes-added a b (λ i. ha (suc i)) (λ i. hb (suc i)))
-
--- the sums are linear
 pub sum-added : (j : ℕ) (a b : List ℕ) → length a ≡ length b → sum j (added a b) ≡ bitXor (sum j a) (sum j b)
-unfolding sum added
+unfolding sum
 sum-added j [] [] e = refl
 sum-added j [] (y ∷ b) e = absurd (omega arith)
 sum-added j (x ∷ a) [] e = absurd (omega arith)

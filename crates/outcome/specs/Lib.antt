@@ -1,6 +1,7 @@
 pub mod Say
 pub mod Bytes
 pub mod Fill
+pub mod Lengths
 pub mod Part
 pub mod First
 pub mod Table

@@ -3,11 +3,14 @@
 use mathlib.Core.Path.{_≡_, refl, sym, ap, _∙_, subst}
 use mathlib.Core.Bool.{Bool, true, false, _&&_}
 use mathlib.Core.Logic.{_⊎_, inl, inr}
-use mathlib.Core.List.{List, [], _∷_}
+use mathlib.Core.List.{List, [], _∷_, _++_}
 use Prim.Native.Nat.{ℕ, zero, suc, _+_, _≤_, _<_}
 use native.Mathlib.Nat.{not-suc-le-zero, le-of-suc-le-suc, eq-or-lt-of-le, le-refl, le-step, suc-add, add-suc, add-zero, zero-add}
 use lib.Dec.{T}
 use lib.ListN.{getD, length}
+use lib.Seq.{ext-getD}
+use native.Mathlib.Omega.{arith}
+use Rattle.outcome.specs.Bytes.{Bytes, bytes-nil, bytes-cons}
 
 -- ---- a rule's values: f i, f (i + 1), .., n of them
 
@@ -26,6 +29,25 @@ tabulated-from f i (suc n) (suc k) h = tabulated-from f (suc i) n k (le-of-suc-l
 
 pub tabulated-at : (f : ℕ → ℕ) (n k : ℕ) → k < n → getD (tabulated f 0 n) k 0 ≡ f k
 tabulated-at f n k h = tabulated-from f 0 n k h ∙ ap f (zero-add k)
+
+-- two such lists are equal where the rules agree
+pub tabulated-same : (f g : ℕ → ℕ) (n : ℕ) → ((k : ℕ) → k < n → f k ≡ g k) → tabulated f 0 n ≡ tabulated g 0 n
+tabulated-same f g n h =
+    ext-getD 0 (tabulated f 0 n) (tabulated g 0 n) (length-tabulated f 0 n ∙ sym (length-tabulated g 0 n))
+    (λ k l.
+    let m : k < n = omega (arith, length-tabulated f 0 n) in
+    tabulated-at f n k m ∙ h k m ∙ sym (tabulated-at g n k m))
+
+-- one value more at the end
+pub tabulated-more : (f : ℕ → ℕ) (i n : ℕ) → tabulated f i (suc n) ≡ tabulated f i n ++ (f (i + n) ∷ [])
+tabulated-more f i zero = ap (λ (x : ℕ). f x ∷ []) (sym (add-zero i))
+tabulated-more f i (suc n) =
+    ap (λ (t : List ℕ). f i ∷ t)
+    (tabulated-more f (suc i) n ∙ ap (λ (x : ℕ). tabulated f (suc i) n ++ (f x ∷ [])) (suc-add i n ∙ sym (add-suc i n)))
+
+pub bytes-tabulated : (f : ℕ → ℕ) (i n : ℕ) → ((k : ℕ) → f k < 256) → Bytes (tabulated f i n)
+bytes-tabulated f i zero h = bytes-nil
+bytes-tabulated f i (suc n) h = bytes-cons (f i) (tabulated f (suc i) n) (h i) (bytes-tabulated f (suc i) n h)
 
 -- ---- a test at each number below n, computed once
 

@@ -12,7 +12,7 @@ use Rattle.outcome.specs.Fill.{Filling, filling-long, filling-more, filling-par
 use Rattle.outcome.specs.Part.{part-back}
 use Rattle.scrambling.specs.Exchange.{exchanged, length-exchanged, exchanged-at}
 use Rattle.scrambling.specs.Frames.{frame, length-frame, f1-exchanged, frame-f1}
-use Rattle.scrambling.proofs.SameLengths.{same-lengths}
+use Rattle.outcome.specs.Lengths.{same-lengths}
 
 pub pair-more : (d s out : List ℕ) (k : ℕ) → Filling d (exchanged s) (2 * k) out → 2 * k + 1 < length s
     → Filling d (exchanged s) (2 * (k + 1)) (set (set out (2 * k) (getD s (2 * k + 1) 0)) (2 * k + 1) (getD s (2 * k) 0))

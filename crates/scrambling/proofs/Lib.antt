@@ -1,4 +1,3 @@
 mod Chain
 mod Exchanging
 mod Masked
-mod SameLengths

@@ -15,7 +15,7 @@ use Rattle.xor.specs.Lists.{added}
 use Rattle.scrambling.specs.Rule.{length-sequence}
 use Rattle.scrambling.specs.Scramble.{scrambled}
 use Rattle.scrambling.specs.Sequence.{sequence}
-use Rattle.scrambling.proofs.SameLengths.{same-lengths}
+use Rattle.outcome.specs.Lengths.{same-lengths}
 
 -- a part that reaches to the end
 to-end : (s : List ℕ) → take (length s - 12) (drop 12 s) ≡ drop 12 s

@@ -1,0 +1,3 @@
+pub mod Codewords
+pub mod Search
+pub mod Ways

@@ -1,0 +1,91 @@
+-- How a Sector is judged (document 01, Order): the first fault found is the answer.
+-- Assumes nothing.
+use mathlib.Core.Bool.{Bool, true, false, not, cond}
+use mathlib.Core.List.{List, [], _∷_}
+use Prim.Native.Nat.{ℕ, _/_, _%_}
+use lib.Dec.{eqb, leb, ltb}
+use lib.ListN.{length, take, drop}
+use Rattle.outcome.specs.Say.{Say, done, refused, demand}
+use Rattle.outcome.specs.First.{firstBelow}
+use Rattle.codeword.specs.Nearest.{isCodeword}
+use Rattle.edc.specs.Bits.{bits}
+use Rattle.edc.specs.Edc.{remainder, isZero}
+use Rattle.rspc.specs.Words.{place, pNumber, qNumber, pWord, qWord}
+use Rattle.address.specs.Address.{inRange}
+use Rattle.sector.specs.Layout.{sync, bytesFrom, timeOf, modeOf, zeros}
+use Rattle.sector.specs.Same.{same}
+use Rattle.address.specs.declared.HeaderTime.{HeaderTime}
+use Rattle.judge.specs.declared.Parity.{Parity}
+use Rattle.judge.specs.declared.Parity.the-variants.{P, Q}
+use Rattle.judge.specs.declared.Judged.{Judged}
+use Rattle.judge.specs.declared.Judged.the-variants.{Passed, WrongIncoming, WrongSync, UnknownMode, WrongAddress, WrongEdc, WrongIntermediate, WrongP, WrongQ, WrongFiller}
+
+-- the codewords of P and of Q: how many, of how many bytes, and where byte m of codeword n stands
+abbrev pub wordsOf : Parity → ℕ
+wordsOf P = 86
+wordsOf Q = 52
+
+abbrev pub rowsOf : Parity → ℕ
+rowsOf P = 26
+rowsOf Q = 45
+
+abbrev pub placeOf : Parity → ℕ → ℕ → ℕ
+placeOf P n r = place (n / 43) (pNumber (n % 43) r)
+placeOf Q n m = place (n / 26) (qNumber (n % 26) m)
+
+abbrev pub wordOf : Parity → List ℕ → ℕ → List ℕ
+wordOf P s n = pWord s n
+wordOf Q s n = qWord s n
+
+-- whether codeword n fails
+abbrev pub failing : Parity → List ℕ → ℕ → Bool
+failing parity s n = not (isCodeword 2 (wordOf parity s n))
+
+-- a demand on each codeword: where one fails, the number comes back with that of the first that does
+abbrev pub demandEach : Parity → List ℕ → ℕ → Say → Say
+demandEach parity s number rest =
+    cond (ltb (firstBelow (failing parity s) (wordsOf parity)) (wordsOf parity))
+    (refused number (firstBelow (failing parity s) (wordsOf parity) ∷ []))
+    rest
+
+-- a Sector that passes comes back with its mode and address
+abbrev pub passing : ℕ → HeaderTime → Say
+passing mode time = done (mode ∷ time .0 ∷ time .1 ∷ time .2 ∷ [])
+
+-- Mode 01: 11, 12, 13, 14
+unfoldable pub judgingMode01 : List ℕ → Say
+judgingMode01 s =
+    demand (isZero (remainder (bits (take 2068 s)))) 11
+    (demand (same (bytesFrom 2068 8 s) (zeros 8)) 12
+    (demandEach P s 13
+    (demandEach Q s 14
+    (passing 1 (timeOf s)))))
+
+-- Mode 00: 15
+unfoldable pub judgingMode00 : List ℕ → Say
+judgingMode00 s = demand (same (drop 16 s) (zeros 2336)) 15 (passing 0 (timeOf s))
+
+unfoldable pub byMode : ℕ → List ℕ → Say
+byMode mode s = cond (eqb mode 0) (judgingMode00 s) (cond (eqb mode 1) (judgingMode01 s) (passing mode (timeOf s)))
+
+-- 1, 10, 3, 4, and then what the mode asks
+unfoldable pub judging : List ℕ → Say
+judging s =
+    demand (eqb (length s) 2352) 1
+    (demand (same (take 12 s) sync) 10
+    (demand (leb (modeOf s) 2) 3
+    (demand (inRange (timeOf s)) 4
+    (byMode (modeOf s) s))))
+
+-- document 01's number and values for each answer
+abbrev pub sayOf : Judged → Say
+sayOf (Passed mode time) = passing mode time
+sayOf WrongIncoming = refused 1 []
+sayOf WrongSync = refused 10 []
+sayOf UnknownMode = refused 3 []
+sayOf WrongAddress = refused 4 []
+sayOf WrongEdc = refused 11 []
+sayOf WrongIntermediate = refused 12 []
+sayOf (WrongP n) = refused 13 (n ∷ [])
+sayOf (WrongQ n) = refused 14 (n ∷ [])
+sayOf WrongFiller = refused 15 []

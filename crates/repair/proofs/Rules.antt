@@ -1,0 +1,36 @@
+-- The ways out of the test of the rules that no parity settles.
+-- Assumes nothing.
+use mathlib.Core.Path.{_≡_, refl, sym, _∙_}
+use mathlib.Core.Bool.{Bool, true, false, not}
+use mathlib.Core.List.{List}
+use Prim.Native.Nat.{ℕ}
+use borrow.Author.Tests.{eq-eqb, ne-eqb, not-true, not-false}
+use lib.ListN.{take}
+use Rattle.edc.specs.Bits.{bits}
+use Rattle.edc.specs.Edc.{remainder, isZero}
+use Rattle.address.specs.Address.{inRange}
+use Rattle.sector.specs.Layout.{bytesFrom, timeOf, modeOf, zeros}
+use Rattle.sector.specs.Same.{same}
+use Rattle.repair.specs.Candidate.{rules}
+
+module _ (s : List ℕ) where
+  pub on-mode : (modeOf s ≡ 1 → ⊥) → false ≡ rules s
+  unfolding rules
+  on-mode n = simp (ne-eqb (modeOf s) 1 n)
+
+  module _ (m : modeOf s ≡ 1) (a : Bool) (ha : a ≡ inRange (timeOf s)) where
+    pub on-address : not a ≡ true → false ≡ rules s
+    unfolding rules
+    on-address n = let d = sym ha ∙ not-true a n in simp (eq-eqb (modeOf s) 1 m, d)
+
+    module _ (na : not a ≡ false) (e : Bool) (he : e ≡ isZero (remainder (bits (take 2068 s)))) where
+      pub on-edc : not e ≡ true → false ≡ rules s
+      unfolding rules
+      on-edc n = let d = sym ha ∙ not-false a na in let f = sym he ∙ not-true e n in simp (eq-eqb (modeOf s) 1 m, d, f)
+
+      pub on-intermediate : not e ≡ false → (i : Bool) → i ≡ same (bytesFrom 2068 8 s) (zeros 8) → i ≡ rules s
+      unfolding rules
+      on-intermediate n i hi =
+          let d = sym ha ∙ not-false a na in
+          let f = sym he ∙ not-false e n in
+          simp (eq-eqb (modeOf s) 1 m, d, f, hi)

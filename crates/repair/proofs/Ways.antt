@@ -1,0 +1,51 @@
+-- The ways out of repair, each with what leads to it: the order 1, 2, 5.
+-- Assumes nothing.
+use mathlib.Core.Path.{_≡_, refl, sym, ap, _∙_, subst}
+use mathlib.Core.Bool.{Bool, true, false, not, cond, _&&_, false≢true}
+use mathlib.Core.List.{List, [], _∷_}
+use Prim.Native.Nat.{ℕ}
+use borrow.Author.Tests.{not-true, not-false}
+use lib.Dec.{eqb}
+use lib.ListN.{length, replicate}
+use Rattle.outcome.specs.Say.{Say, done, refused, cleared, cleared-right, cleared-wrong}
+use Rattle.outcome.specs.Bytes.{Bytes}
+use Rattle.outcome.specs.Lengths.{same-lengths}
+use Rattle.codeword.specs.Code.{changes}
+use Rattle.repair.specs.Repair.{Sought, Repairs, wrong-incoming, wrong-outgoing, none-near, handed-out}
+use Rattle.repair.specs.Candidate.{rules, Candidate, FoundFor, candidate-sought, candidate-alone}
+
+module _ (r old new : List ℕ) where
+  leaves : (n : ℕ) → new ≡ cleared 2352 old → Repairs r old (refused n []) (cleared 2352 old) → Repairs r old (refused n []) new
+  leaves n e h = subst (λ (x : List ℕ). Repairs r old (refused n []) x) (sym e) h
+
+  pub on-incoming : (length r ≡ 2352 → ⊥) → new ≡ cleared 2352 old → Repairs r old (refused 1 []) new
+  on-incoming n z = leaves 1 z (wrong-incoming n)
+
+  pub on-outgoing : length r ≡ 2352 → (length old ≡ 2352 → ⊥) → new ≡ old → Repairs r old (refused 2 []) new
+  on-outgoing l n z = leaves 2 (z ∙ sym (cleared-wrong 2352 old n)) (wrong-outgoing l n)
+
+  module _ (lr : length r ≡ 2352) (lo : length old ≡ 2352) (near : Bool) (s : List ℕ) (f : FoundFor r near s) where
+    module _ (right : Bool) (g : (right ≡ rules s) × Bytes s) where
+      the-candidate : near ≡ true → Candidate r s
+      the-candidate e = f .candidate e (g .1)
+
+      pub on-none : not (near && right) ≡ true → new ≡ replicate (length old) 0 → Repairs r old (refused 5 []) new
+      on-none n z =
+          leaves 5 (z ∙ ap (λ (k : ℕ). replicate k 0) lo ∙ sym (cleared-right 2352 old lo))
+          (none-near lr lo (by near refl (not-true (near && right) n)))
+        where
+          by : (b : Bool) → near ≡ b → b && right ≡ false → (t : List ℕ) → Sought r t → ⊥
+          by true e n = candidate-alone r s (the-candidate e) (sym (g .0) ∙ n)
+          by false e n = f .nothing e
+
+      pub on-found : not (near && right) ≡ false → (k : Bool) → (k ≡ eqb (length s) (length old)) × (new ≡ cond k s old) → (n : ℕ) → n ≡ changes r s
+          → Repairs r old (done (n ∷ [])) new
+      on-found m k e n c = by near refl (not-false (near && right) m)
+        where
+          by : (b : Bool) → near ≡ b → b && right ≡ true → Repairs r old (done (n ∷ [])) new
+          by true q m =
+              let same : new ≡ s = same-lengths k (length s) (length old) new s old e (the-candidate q .long ∙ sym lo) in
+              subst (λ (x : List ℕ). Repairs r old (done (n ∷ [])) x) (sym same)
+              (subst (λ (m : ℕ). Repairs r old (done (m ∷ [])) s) (sym c)
+              (handed-out lr lo (candidate-sought r s (the-candidate q) (sym (g .0) ∙ m))))
+          by false q m = absurd (false≢true m)

@@ -1,0 +1,4 @@
+pub mod Repair
+pub mod Laws
+pub mod Candidate
+pub mod Certificate

@@ -1,0 +1,110 @@
+// Repair of a Sector (document 01, demand 3).
+ghost use mathlib.Core.Path.{_≡_};
+ghost use mathlib.Core.Bool.{cond};
+ghost use lib.Dec.{eqb};
+ghost use lib.ListN.{length};
+ghost use Prim.Native.Nat.{min};
+ghost use Rattle.codeword.specs.Code.{changes};
+ghost use Rattle.outcome.specs.Bytes.{Bytes};
+ghost use Rattle.repair.specs.Repair.{Repairs, sayOf};
+ghost use Rattle.repair.specs.Candidate.{rules, FoundFor};
+use address::HeaderTime;
+
+// What becomes of a Sector: it is handed out with the count of changed bytes, or refused.
+pub enum Repaired {
+    HandedOut(usize),
+    WrongIncoming,
+    WrongOutgoing,
+    NoSectorNear,
+}
+
+// 1 where two bytes differ, else 0.
+fn unlike(a: u8, b: u8) -> usize
+    ensures { λ r. ⌜ r ≡ cond (eqb a b) 0 1 ⌝ }
+{
+    if a == b { 0 } else { 1 }
+}
+
+// The lesser of two numbers.
+fn lesser(a: usize, b: usize) -> usize
+    ensures { λ r. ⌜ r ≡ min a b ⌝ }
+{
+    if a < b { a } else { b }
+}
+
+// In how many places two Sectors differ; where one is longer, the rest of it does not count.
+pub fn count_changes(a: &[u8], b: &[u8]) -> usize
+    ensures { λ r. ⌜ r ≡ changes (now (a .entry)) (now (b .entry)) ⌝ }
+{
+    let n = lesser(a.len(), b.len());
+    let mut count: usize = 0;
+    let mut i: usize = 0;
+    while i < n {
+        count += unlike(a[i], b[i]);
+        i += 1;
+    }
+    count
+}
+
+// Whether the rules of Mode 01 hold that no parity settles: mode, address, EDC and Intermediate field. A slice also shows that
+// what it holds are bytes, which an array of one's own does not.
+fn rules_right(s: &[u8]) -> bool
+    requires { ⌜ length (now s) ≡ 2352 ⌝ }
+    ensures { λ r. ⌜ (r ≡ rules (now (s .entry))) × Bytes (now (s .entry)) ⌝ }
+{
+    if s[15] != 1 {
+        return false;
+    }
+    let time = HeaderTime(s[12], s[13], s[14]);
+    if !time.in_range() {
+        return false;
+    }
+    if !edc::holds(&s[..2068]) {
+        return false;
+    }
+    sector::intermediate_right(s)
+}
+
+// What may be the Sector that is sought, and whether each P codeword had one near.
+struct Found {
+    near: bool,
+    sector: [u8; 2352],
+}
+
+// What came in with each P codeword mended, Sync put right and Q worked out afresh.
+fn candidate(received: &[u8]) -> Found
+    requires { ⌜ length (now received) ≡ 2352 ⌝ }
+    ensures { λ r. ⌜ FoundFor (now (received .entry)) (r .near) (r .sector) ⌝ }
+{
+    let mut s = sector::blank();
+    outcome::copy(received, &mut s);
+    let near = rspc::p_pass(&mut s);
+    let sync = sector::sync_field();
+    outcome::copy(&sync, &mut s[..12]);
+    rspc::put_q(&mut s);
+    Found { near, sector: s }
+}
+
+// Hands out the one correct Sector of Mode 01 that differs from what came in in at most one byte of each P codeword, with the count
+// of changed bytes, or refuses.
+pub fn repair(received: &[u8], out: &mut [u8]) -> Repaired
+    ensures { λ r. ⌜ Repairs (now (received .entry)) (now (out .entry)) (sayOf r) (now (out .exit)) ⌝ }
+{
+    if received.len() != 2352 {
+        outcome::wipe(out, 2352);
+        return Repaired::WrongIncoming;
+    }
+    if out.len() != 2352 {
+        return Repaired::WrongOutgoing;
+    }
+    let found = candidate(received);
+    let near = found.near;
+    let s = found.sector;
+    let right = rules_right(&s);
+    if !(near & right) {
+        outcome::clear(out);
+        return Repaired::NoSectorNear;
+    }
+    outcome::copy(&s, out);
+    Repaired::HandedOut(count_changes(received, &s))
+}

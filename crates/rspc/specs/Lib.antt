@@ -1,0 +1,11 @@
+pub mod Words
+pub mod Cover
+pub mod Parity
+pub mod Place
+pub mod Pass
+pub mod Mend
+pub mod Put
+pub mod ParityRows
+pub mod Gather
+pub mod PassLaws
+pub mod PutLaws

@@ -1,0 +1,57 @@
+-- The parity of RSPC is the only one: two Sectors that agree on all that a codeword protects, and are codewords, agree on its
+-- parity (Annex A).
+-- Assumes nothing.
+use mathlib.Core.Path.{_≡_, refl, sym, ap, _∙_}
+use mathlib.Core.Bool.{cond}
+use mathlib.Core.Logic.{_⊎_, inl, inr}
+use mathlib.Core.List.{List, [], _∷_}
+use Prim.Native.Nat.{ℕ, zero, suc, _+_, _-_, _*_, _/_, _%_, _<_, _≤_}
+use native.Mathlib.Omega.{arith}
+use lib.Dec.{eqb}
+use lib.ListN.{length, getD}
+use Rattle.outcome.specs.Bytes.{Bytes}
+use Rattle.outcome.specs.Table.{bytes-tabulated}
+use Rattle.codeword.specs.Code.{Codeword, changes}
+use Rattle.codeword.specs.Changes.{unlike-same, unlike-le}
+use Rattle.codeword.specs.Distance.{codewords-differ}
+use Rattle.rspc.specs.Words.{place, pNumber, qNumber, pWord, qWord}
+use Rattle.rspc.specs.Cover.{SameCovered, SameQParity, length-p, p-at, p-covers, length-q, q-front, q-covers}
+
+pub bytes-p : (s : List ℕ) (n : ℕ) → Bytes s → Bytes (pWord s n)
+unfolding pWord
+bytes-p s n h = bytes-tabulated (λ r. getD s (place (n / 43) (pNumber (n % 43) r)) 0) 0 26 (λ r. h (place (n / 43) (pNumber (n % 43) r)))
+
+pub bytes-q : (s : List ℕ) (n : ℕ) → Bytes s → Bytes (qWord s n)
+unfolding qWord
+bytes-q s n h = bytes-tabulated (λ m. getD s (place (n / 26) (qNumber (n % 26) m)) 0) 0 45 (λ m. h (place (n / 26) (qNumber (n % 26) m)))
+
+-- words that agree on their first k places differ in the others at most
+changes-late : (a b : List ℕ) (k : ℕ) → length a ≡ length b → ((i : ℕ) → i < k → getD a i 0 ≡ getD b i 0) → changes a b ≤ length a - k
+unfolding changes
+changes-late [] b k e h = omega arith
+changes-late (x ∷ a) [] k e h = absurd (omega arith)
+changes-late (x ∷ a) (y ∷ b) zero e h = omega (arith, unlike-le x y, changes-late a b zero (omega arith) (λ i l. absurd (omega arith)))
+changes-late (x ∷ a) (y ∷ b) (suc k) e h =
+    omega (arith, unlike-same x y (h 0 (omega arith)), changes-late a b k (omega arith) (λ i l. h (suc i) (omega arith)))
+
+-- so two codewords that agree but for the last two places are one
+pub last-two : (a b : List ℕ) (k : ℕ) → length a ≡ k + 2 → length b ≡ k + 2 → k ≤ 253 → Bytes a → Bytes b → Codeword 2 a → Codeword 2 b
+    → ((i : ℕ) → i < k → getD a i 0 ≡ getD b i 0) → a ≡ b
+last-two a b k la lb h ha hb ca cb same =
+    codewords-differ 2 a b (la ∙ sym lb) (omega arith) ha hb ca cb (omega (arith, changes-late a b k (la ∙ sym lb) same))
+
+module _ (s t : List ℕ) (hs : Bytes s) (ht : Bytes t) where
+  -- the P parity is determined by bytes 12 to 2,075
+  pub p-one : ((i : ℕ) → 12 ≤ i → i < 2076 → getD s i 0 ≡ getD t i 0) → ((n : ℕ) → n < 86 → Codeword 2 (pWord s n))
+      → ((n : ℕ) → n < 86 → Codeword 2 (pWord t n)) → SameCovered s t
+  p-one same cs ct =
+      p-covers s t
+      (λ n h. last-two (pWord s n) (pWord t n) 24 (length-p s n) (length-p t n) (omega arith) (bytes-p s n hs) (bytes-p t n ht) (cs n h) (ct n h)
+      (λ r l. p-at s n r (omega arith) ∙ same (place (n / 43) (pNumber (n % 43) r)) (omega arith) (omega arith) ∙ sym (p-at t n r (omega arith))))
+
+  -- the Q parity is determined by bytes 12 to 2,247
+  pub q-one : SameCovered s t → ((n : ℕ) → n < 52 → Codeword 2 (qWord s n)) → ((n : ℕ) → n < 52 → Codeword 2 (qWord t n)) → SameQParity s t
+  q-one same cs ct =
+      q-covers s t
+      (λ n h. last-two (qWord s n) (qWord t n) 43 (length-q s n) (length-q t n) (omega arith) (bytes-q s n hs) (bytes-q t n ht) (cs n h) (ct n h)
+      (λ m l. q-front s t n m h l same))

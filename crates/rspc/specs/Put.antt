@@ -1,0 +1,29 @@
+-- Parity put into a Sector (Annex A): P into bytes 2,076 to 2,247, which makes codewords of all P words, and Q into bytes 2,248 to
+-- 2,351, which makes codewords of all Q words. No other byte changes.
+-- Assumes nothing.
+use mathlib.Core.Path.{_≡_}
+use mathlib.Core.Bool.{Bool, true}
+use mathlib.Core.List.{List}
+use Prim.Native.Nat.{ℕ, _<_}
+use lib.ListN.{length, take, drop}
+use Rattle.codeword.specs.Code.{Codeword}
+use Rattle.rspc.specs.Words.{pWord, qWord}
+use Rattle.rspc.specs.Place.{InPlace}
+
+pub record PPut (s t : List ℕ) : Type 0 where
+  pub long : length t ≡ length s
+  pub before : take 2076 t ≡ take 2076 s
+  pub after : drop 2248 t ≡ drop 2248 s
+  pub words : (n : ℕ) → n < 86 → Codeword 2 (pWord t n)
+
+pub record QPut (s t : List ℕ) : Type 0 where
+  pub long : length t ≡ length s
+  pub before : take 2248 t ≡ take 2248 s
+  pub words : (n : ℕ) → n < 52 → Codeword 2 (qWord t n)
+
+-- in place
+abbrev pub PutP : List ℕ → Bool → List ℕ → Type 0
+PutP = InPlace (λ s r t. (r ≡ true) × PPut s t)
+
+abbrev pub PutQ : List ℕ → Bool → List ℕ → Type 0
+PutQ = InPlace (λ s r t. (r ≡ true) × QPut s t)

@@ -1,0 +1,4 @@
+pub mod Layout
+pub mod Correct
+pub mod Same
+pub mod Whole

@@ -1,0 +1,3 @@
+pub mod LayOut
+pub mod Protecting
+pub mod Ways

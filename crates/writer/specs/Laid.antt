@@ -1,0 +1,127 @@
+-- A Sector as it is laid out: Sync, address and mode, the user data, and zeros to the end (clause 14). In Modes 00 and 02 that is
+-- all; in Mode 01 the EDC and the parities are put in from byte 2,064 on.
+-- Assumes nothing.
+use mathlib.Core.Path.{_≡_, refl, sym, ap, ap₂, _∙_, subst}
+use mathlib.Core.Bool.{Bool, true, false}
+use mathlib.Core.List.{List, [], _∷_, _++_, append-nil}
+use Prim.Native.Nat.{ℕ, zero, suc, _+_, _-_, _<_, _≤_}
+use native.Mathlib.Nat.{zero-add, suc-add}
+use native.Mathlib.Omega.{arith}
+use lib.ListN.{length, getD, take, drop, replicate, length-append, length-take, length-drop, length-replicate}
+use lib.Seq.{getD-take, take-take, take-all, drop-append-le, take-append-le, take-at, drop-at, take-nil}
+use Rattle.outcome.specs.Bytes.{Bytes}
+use Rattle.edc.specs.Edc.{Divisible}
+use Rattle.address.specs.Address.{inRange}
+use Rattle.address.specs.declared.HeaderTime.{HeaderTime}
+use Rattle.sector.specs.Layout.{sync, bytesFrom, timeOf, modeOf, userLength, userData, zeros, length-zeros}
+use Rattle.sector.specs.Correct.{Head, Empty, Protected, Correct}
+use Rattle.writer.specs.Write.{Asked}
+
+-- bytes 0 to 15
+unfoldable pub front : ℕ → HeaderTime → List ℕ
+front mode time = sync ++ (time .0 ∷ time .1 ∷ time .2 ∷ mode ∷ [])
+
+abbrev pub laid : ℕ → HeaderTime → List ℕ → List ℕ
+laid mode time user = front mode time ++ (user ++ zeros (2336 - length user))
+
+-- s begins with the front
+pub record Fronted (mode : ℕ) (time : HeaderTime) (s : List ℕ) : Type 0 where
+  pub synced : take 12 s ≡ sync
+  pub has-time : timeOf s ≡ time
+  pub has-mode : modeOf s ≡ mode
+
+pub fronted : (mode : ℕ) (time : HeaderTime) (rest : List ℕ) → Fronted mode time (front mode time ++ rest)
+unfolding front
+fronted mode time rest = record { synced = refl; has-time = refl; has-mode = refl }
+
+-- a Sector that agrees with another on its first n bytes, n at least 16, has its front
+pub fronted-same : (mode : ℕ) (time : HeaderTime) (n : ℕ) (s t : List ℕ) → 16 ≤ n → take n s ≡ take n t → Fronted mode time t → Fronted mode time s
+fronted-same mode time n s t l e f =
+    record {
+      synced = sym (take-take 12 n s (omega arith)) ∙ ap (take 12) e ∙ take-take 12 n t (omega arith) ∙ f .synced;
+      has-time = (λ i. record { 0 = at 12 (omega arith) i; 1 = at 13 (omega arith) i; 2 = at 14 (omega arith) i }) ∙ f .has-time;
+      has-mode = at 15 (omega arith) ∙ f .has-mode;
+    }
+  where
+    at : (i : ℕ) → i < 16 → getD s i 0 ≡ getD t i 0
+    at i h = sym (getD-take n s i 0 (omega arith)) ∙ ap (λ (w : List ℕ). getD w i 0) e ∙ getD-take n t i 0 (omega arith)
+
+pub drop-take : (a n : ℕ) (w : List ℕ) → drop a (take (a + n) w) ≡ take n (drop a w)
+drop-take zero n w = ap (λ (m : ℕ). take m w) (zero-add n)
+drop-take (suc a) n [] = ap (λ (m : ℕ). drop (suc a) (take m [])) (suc-add a n) ∙ sym (take-nil n)
+drop-take (suc a) n (x ∷ w) = ap (λ (m : ℕ). drop (suc a) (take m (x ∷ w))) (suc-add a n) ∙ drop-take a n w
+
+module _ (mode : ℕ) (time : HeaderTime) (user : List ℕ) (known : mode ≤ 2) (fits : length user ≡ userLength mode) (range : inRange time ≡ true) where
+  -- a Sector with this front whose rules and user data are right is the one that is asked for
+  pub asked : (s : List ℕ) → Fronted mode time s → length s ≡ 2352 → Bytes s → (mode ≡ 0 → Empty s) → (mode ≡ 1 → Protected s)
+      → bytesFrom 16 (userLength mode) s ≡ user → Asked mode time user s
+  asked s f l b e p u =
+      record {
+        correct = record {
+          head = record { long = l; bytes = b; synced = f .synced; addressed = ap inRange (f .has-time) ∙ range };
+          known = subst (λ (m : ℕ). m ≤ 2) (sym (f .has-mode)) known;
+          mode00 = λ z. e (sym (f .has-mode) ∙ z);
+          mode01 = λ z. p (sym (f .has-mode) ∙ z);
+        };
+        has-mode = f .has-mode;
+        has-time = f .has-time;
+        has-user = ap (λ (n : ℕ). bytesFrom 16 n s) (ap userLength (f .has-mode)) ∙ u;
+      }
+
+  pub length-front : length (front mode time) ≡ 16
+  length-front = unfold front in refl
+
+  -- a mode has room for its user data
+  pub room : length user ≤ 2336
+  room = subst (λ (n : ℕ). n ≤ 2336) (sym fits) (at mode known)
+    where
+      at : (m : ℕ) → m ≤ 2 → userLength m ≤ 2336
+      at zero h = omega arith
+      at (suc zero) h = omega arith
+      at (suc (suc zero)) h = omega arith
+      at (suc (suc (suc m))) h = absurd (omega arith)
+
+  after-front : drop 16 (laid mode time user) ≡ user ++ zeros (2336 - length user)
+  after-front = drop-at (front mode time) (user ++ zeros (2336 - length user)) 16 length-front
+
+  pub length-laid : length (laid mode time user) ≡ 2352
+  length-laid =
+      omega (
+        arith,
+        room,
+        length-front,
+        length-append (front mode time) (user ++ zeros (2336 - length user)),
+        length-append user (zeros (2336 - length user)),
+        length-zeros (2336 - length user),
+      )
+
+  -- its user data
+  pub laid-user : bytesFrom 16 (userLength mode) (laid mode time user) ≡ user
+  laid-user = ap (take (userLength mode)) after-front ∙ take-at user (zeros (2336 - length user)) (userLength mode) fits
+
+  -- Modes 00 and 02 have nothing more
+  pub asked-plain : (mode ≡ 1 → ⊥) → Bytes (laid mode time user) → Asked mode time user (laid mode time user)
+  asked-plain n b =
+      asked (laid mode time user) (fronted mode time (user ++ zeros (2336 - length user))) length-laid b empty (λ e. absurd (n e)) laid-user
+    where
+      none : (w : List ℕ) → length w ≡ 0 → w ++ zeros (2336 - length w) ≡ zeros 2336
+      none [] e = refl
+      none (x ∷ w) e = absurd (omega arith)
+
+      empty : mode ≡ 0 → Empty (laid mode time user)
+      empty e = after-front ∙ none user (fits ∙ ap userLength e)
+
+  -- in Mode 01 the bytes from 2,064 on are put in
+  pub asked-protected : (s : List ℕ) → mode ≡ 1 → length s ≡ 2352 → Bytes s → take 2064 s ≡ take 2064 (laid mode time user) → Protected s
+      → Asked mode time user s
+  asked-protected s e l b same p =
+      asked s (fronted-same mode time 2064 s (laid mode time user) (omega arith) same (fronted mode time (user ++ zeros (2336 - length user)))) l b
+      (λ z. absurd (omega arith)) (λ _. p) (user-data (ap userLength e))
+    where
+      user-data : userLength mode ≡ 2048 → bytesFrom 16 (userLength mode) s ≡ user
+      user-data q =
+          ap (λ (n : ℕ). bytesFrom 16 n s) q ∙ sym (within s) ∙ ap (drop 16) same ∙ within (laid mode time user)
+          ∙ sym (ap (λ (n : ℕ). bytesFrom 16 n (laid mode time user)) q) ∙ laid-user
+        where
+          within : (w : List ℕ) → drop 16 (take 2064 w) ≡ bytesFrom 16 2048 w
+          within w = drop-take 16 2048 w
