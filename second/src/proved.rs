@@ -18,6 +18,18 @@ extern "C" {
     fn road_edc_holds(bytes: *const u8, length: usize) -> bool;
     fn road_scramble(sector: *const u8, length: usize, out: *mut u8, out_length: usize) -> u64;
     fn road_cut(scrambled: *const u8, length: usize, out: *mut u8, out_length: usize) -> u64;
+    fn road_write(
+        mode: u8,
+        minute: u8,
+        second: u8,
+        frame: u8,
+        user: *const u8,
+        length: usize,
+        out: *mut u8,
+        out_length: usize,
+    ) -> u64;
+    fn road_judge(sector: *const u8, length: usize) -> u64;
+    fn road_repair(received: *const u8, length: usize, out: *mut u8, out_length: usize) -> u64;
     fn road_join(frames: *const u8, length: usize, out: *mut u8, out_length: usize) -> u64;
 }
 
@@ -108,4 +120,18 @@ pub fn cut(scrambled: &[u8], out: &mut [u8]) -> u64 {
 
 pub fn join(frames: &[u8], out: &mut [u8]) -> u64 {
     unsafe { road_join(frames.as_ptr(), frames.len(), out.as_mut_ptr(), out.len()) }
+}
+
+pub fn write(mode: u8, address: [u8; 3], data: &[u8], out: &mut [u8]) -> u64 {
+    let [minute, second, frame] = address;
+    let (user, length) = (data.as_ptr(), data.len());
+    unsafe { road_write(mode, minute, second, frame, user, length, out.as_mut_ptr(), out.len()) }
+}
+
+pub fn judge(sector: &[u8]) -> u64 {
+    unsafe { road_judge(sector.as_ptr(), sector.len()) }
+}
+
+pub fn repair(received: &[u8], out: &mut [u8]) -> u64 {
+    unsafe { road_repair(received.as_ptr(), received.len(), out.as_mut_ptr(), out.len()) }
 }
