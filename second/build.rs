@@ -3,12 +3,14 @@
 use std::path::Path;
 
 fn main() {
-    let folder = Path::new(env!("CARGO_MANIFEST_DIR")).join("../target/staticlib");
+    let package = std::env::var("CARGO_MANIFEST_DIR").expect("cargo sets it");
+    let folder = Path::new(&package).join("../target/staticlib");
     let library = folder.join("libroad.a");
     println!("cargo:rerun-if-changed={}", library.display());
     if !library.exists() {
-        println!("cargo:warning={} is missing", library.display());
-        panic!("the proved code is not built: run `rt staticlib road` in the repository's root, or `make test`");
+        eprintln!("{} is missing.", library.display());
+        eprintln!("Run `rt staticlib road` in the repository's root, or `make test`.");
+        std::process::exit(1);
     }
     println!("cargo:rustc-link-search=native={}", folder.display());
     println!("cargo:rustc-link-lib=static=road");

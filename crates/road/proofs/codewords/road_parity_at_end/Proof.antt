@@ -5,8 +5,8 @@ use mathlib.Core.Path.{subst, sym}
 use mathlib.Core.List.{List, _++_}
 use Prim.Native.Nat.{ℕ}
 use Rattle.codeword.specs.Parity.{Parity}
-use Rattle.road.proofs.words.road_parity_at_end.Statement.{statement}
-use Rattle.road.proofs.words.road_parity_at_end.Tie as tie
+use Rattle.road.proofs.codewords.road_parity_at_end.Statement.{statement}
+use Rattle.road.proofs.codewords.road_parity_at_end.Tie as tie
 
 parity-at-end-requires : tie.Need-parity-at-end-requires
 parity-at-end-requires c κs = search needs

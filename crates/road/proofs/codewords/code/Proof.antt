@@ -1,4 +1,4 @@
--- `words::code` meets its contract: each arm is a case of `codedVerdict`, and a byte is below 4,096.
+-- `codewords::code` meets its contract: each arm is a case of `codedVerdict`, and a byte is below 4,096.
 -- Assumes nothing.
 use borrow.Author.Needs.{needs}
 use mathlib.Core.Path.{_≡_, sym, ap, _∙_}
@@ -6,8 +6,8 @@ use native.Mathlib.Omega.{arith}
 use Prim.Native.Nat.{ℕ, _+_, _*_, _%_, _<_}
 use Rattle.codeword.specs.declared.Verdict.the-variants.{Change}
 use Rattle.road.specs.Coded.{codedVerdict}
-use Rattle.road.proofs.words.code.Statement.{statement}
-use Rattle.road.proofs.words.code.Tie as tie
+use Rattle.road.proofs.codewords.code.Statement.{statement}
+use Rattle.road.proofs.codewords.code.Tie as tie
 
 change-coded : (i b : ℕ) → b < 256 → 1 + 4096 * (i % 4096 + 4096 * b) ≡ codedVerdict (Change i b)
 change-coded i b h = omega arith

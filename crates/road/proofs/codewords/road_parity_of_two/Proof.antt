@@ -5,8 +5,8 @@ use mathlib.Core.Path.{subst, sym}
 use mathlib.Core.List.{List, _++_}
 use Prim.Native.Nat.{ℕ}
 use Rattle.codeword.specs.Parity.{Parity}
-use Rattle.road.proofs.words.road_parity_of_two.Statement.{statement}
-use Rattle.road.proofs.words.road_parity_of_two.Tie as tie
+use Rattle.road.proofs.codewords.road_parity_of_two.Statement.{statement}
+use Rattle.road.proofs.codewords.road_parity_of_two.Tie as tie
 
 parity-of-two-requires : tie.Need-parity-of-two-requires
 parity-of-two-requires c κs = search needs

@@ -3,8 +3,8 @@
 use borrow.Author.Needs.{needs}
 use mathlib.Core.Path.{ap, _∙_}
 use Rattle.road.specs.Coded.{codedVerdict}
-use Rattle.road.proofs.words.road_verdict_of_two.Statement.{statement}
-use Rattle.road.proofs.words.road_verdict_of_two.Tie as tie
+use Rattle.road.proofs.codewords.road_verdict_of_two.Statement.{statement}
+use Rattle.road.proofs.codewords.road_verdict_of_two.Tie as tie
 
 verdict-of-two-requires : tie.Need-verdict-of-two-requires
 verdict-of-two-requires c κs = search needs

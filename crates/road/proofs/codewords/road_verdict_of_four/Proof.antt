@@ -3,8 +3,8 @@
 use borrow.Author.Needs.{needs}
 use mathlib.Core.Path.{ap, _∙_}
 use Rattle.road.specs.Coded.{codedVerdict}
-use Rattle.road.proofs.words.road_verdict_of_four.Statement.{statement}
-use Rattle.road.proofs.words.road_verdict_of_four.Tie as tie
+use Rattle.road.proofs.codewords.road_verdict_of_four.Statement.{statement}
+use Rattle.road.proofs.codewords.road_verdict_of_four.Tie as tie
 
 verdict-of-four-requires : tie.Need-verdict-of-four-requires
 verdict-of-four-requires c κs = search needs

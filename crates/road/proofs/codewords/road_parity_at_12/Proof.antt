@@ -6,8 +6,8 @@ use mathlib.Core.List.{List, _++_}
 use Prim.Native.Nat.{ℕ}
 use lib.ListN.{take, drop}
 use Rattle.codeword.specs.Parity.{Parity}
-use Rattle.road.proofs.words.road_parity_at_12.Statement.{statement}
-use Rattle.road.proofs.words.road_parity_at_12.Tie as tie
+use Rattle.road.proofs.codewords.road_parity_at_12.Statement.{statement}
+use Rattle.road.proofs.codewords.road_parity_at_12.Tie as tie
 
 parity-at-12-requires : tie.Need-parity-at-12-requires
 parity-at-12-requires c κs = search needs
