@@ -1,8 +1,16 @@
-# `make` proves the crates and builds the programs; `make test` is the gate; `make bench` times the proved code.
-.PHONY: all test bench
+# `make` proves the crates and builds the programs; `make run` prints a report; `make test` is the gate; `make bench` times the proved code.
+.PHONY: all run test bench
+
+# the image whose report `make run` prints
+IMAGE ?= crates/report/stdin
 
 all:
 	rt check
+
+run:
+	@mkdir -p target
+	@rt check report > target/report.log 2>&1 || { tail -n 40 target/report.log; exit 1; }
+	@target/bin/report < "$(IMAGE)"
 
 test:
 	rt fmt --check
@@ -12,4 +20,5 @@ test:
 
 bench:
 	rt staticlib road
+	rt check report
 	cd second && cargo run --offline --release --quiet --bin bench

@@ -1,0 +1,14 @@
+pub mod Pens
+pub mod Options
+pub mod Ways
+pub mod Section
+pub mod Symbols
+pub mod Standing
+pub mod Writes
+pub mod Going
+pub mod State
+pub mod WriteSay
+pub mod Reading
+pub mod Reads
+pub mod Frames
+pub mod ReadSay

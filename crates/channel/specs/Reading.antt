@@ -1,0 +1,53 @@
+-- Reading a Section (document 01, "Channel bits"): Merging bits are ignored; each of the 98 frames must begin with the Sync Header, and gives 33 bytes
+-- and 33 marks, the Control byte first.
+-- Assumes nothing.
+use mathlib.Core.Bool.{Bool, cond, not}
+use mathlib.Core.List.{List}
+use Prim.Native.Nat.{ℕ, _+_, _*_, _/_, _%_}
+use lib.Dec.{eqb}
+use lib.ListN.{take, drop}
+use Rattle.outcome.specs.First.{firstBelow}
+use Rattle.outcome.specs.Table.{tabulated}
+use Rattle.bits.specs.Bits.{number}
+use Rattle.words.specs.declared.Symbol.{Symbol}
+use Rattle.words.specs.declared.Symbol.the-variants.{Byte, Unknown}
+use Rattle.words.specs.Words.{byteOf, sync0, sync1}
+
+-- the number of n bits from bit p on
+abbrev pub fieldAt : List ℕ → ℕ → ℕ → ℕ
+fieldAt bits p n = number 0 (take n (drop p bits))
+
+-- frame f does not begin with the Sync Header
+abbrev pub headless : List ℕ → ℕ → Bool
+headless bits f = not (eqb (fieldAt bits (588 * f) 24) 0b100000000001000000000010)
+
+-- the first such frame, or 98
+unfoldable pub firstHeadless : List ℕ → ℕ
+firstHeadless bits = firstBelow (headless bits) 98
+
+-- the word at place i of frame f: the Sync Header has 24 bits, and each word stands after three Merging bits
+abbrev pub wordRead : List ℕ → ℕ → ℕ → ℕ
+wordRead bits f i = fieldAt bits (588 * f + 27 + 17 * i) 14
+
+-- the byte of a word, 0 if it is unknown
+abbrev pub byteFor : Symbol → ℕ
+byteFor (Byte b) = b
+byteFor Unknown = 0
+
+-- the mark of a word w at place i: 0 known; 2 for SYNC 0 and 3 for SYNC 1 in a Control place; 1 unknown
+abbrev pub markFor : Symbol → ℕ → ℕ → ℕ
+markFor (Byte b) w i = 0
+markFor Unknown w i = cond (eqb i 0) (cond (eqb w sync0) 2 (cond (eqb w sync1) 3 1)) 1
+
+-- byte and mark at place k of all 98 times 33
+abbrev pub byteRead : List ℕ → ℕ → ℕ
+byteRead bits k = byteFor (byteOf (wordRead bits (k / 33) (k % 33)))
+
+abbrev pub markRead : List ℕ → ℕ → ℕ
+markRead bits k = markFor (byteOf (wordRead bits (k / 33) (k % 33))) (wordRead bits (k / 33) (k % 33)) (k % 33)
+
+unfoldable pub bytesRead : List ℕ → List ℕ
+bytesRead bits = tabulated (byteRead bits) 0 3234
+
+unfoldable pub marksRead : List ℕ → List ℕ
+marksRead bits = tabulated (markRead bits) 0 3234

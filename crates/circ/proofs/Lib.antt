@@ -1,0 +1,4 @@
+mod Copies
+mod Marks
+mod Parities
+mod Mending

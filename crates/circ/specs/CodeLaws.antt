@@ -1,0 +1,82 @@
+-- The two codes of CIRC are as the laws over streams ask: parity makes codewords, and a codeword is handed on as it is and is not marked.
+-- A word is marked exactly where no codeword is near it.
+-- Assumes nothing.
+use mathlib.Core.Path.{_≡_, refl, ap, subst}
+use mathlib.Core.List.{List, [], _++_, append-nil}
+use mathlib.Core.Option.{Option, none, some}
+use Prim.Native.Nat.{ℕ, _≤_}
+use native.Mathlib.Omega.{arith}
+use lib.ListN.{length, take, drop, length-set}
+use Rattle.outcome.specs.Bytes.{Bytes, bytes-take, bytes-drop, bytes-nil}
+use Rattle.codeword.specs.Code.{Codeword, Near}
+use Rattle.codeword.specs.Nearest.{nearest, verdict, mended}
+use Rattle.codeword.specs.declared.Verdict.{Verdict}
+use Rattle.codeword.specs.declared.Verdict.the-variants as verdicts
+use Rattle.codeword.specs.NearestLaws.{nearest-code, nearest-sound, nearest-none}
+use Rattle.codeword.specs.Distance.{sum-zeros}
+use Rattle.codeword.specs.Parity.{Parity}
+use Rattle.circ.specs.Chains.{withQ, withP}
+use Rattle.circ.specs.Coding.{Coding, Correcting}
+use Rattle.circ.specs.Codes.{parityBetween, parity-right, four-bytes, bytes-parity, qOf, pOf, handedOn, markOf, corrected, lost}
+
+-- the Q bytes and the P bytes are the parity of their words
+pub q-parity : (w : List ℕ) → Bytes w → Parity 4 (qOf w) (withQ qOf w)
+unfolding qOf withQ
+q-parity w h = parity-right (take 12 w) (drop 16 w) (bytes-take 12 w h) (bytes-drop 16 w h)
+
+pub p-parity : (w : List ℕ) → Bytes w → Parity 4 (pOf w) (withP pOf w)
+unfolding pOf withP
+p-parity w h = subst (λ (t : List ℕ). Parity 4 (parityBetween w []) (w ++ t)) (append-nil (parityBetween w [])) (parity-right w [] h bytes-nil)
+
+pub circ-coding : Coding (Codeword 4) qOf pOf
+unfolding qOf pOf
+circ-coding =
+    record {
+      four-q = λ w. four-bytes (take 12 w) (drop 16 w);
+      four-p = λ w. four-bytes w [];
+      bytes-q = λ w h. bytes-parity (take 12 w) (drop 16 w);
+      bytes-p = λ w h. bytes-parity w [];
+      code-q = λ w e h. q-parity w h .code;
+      code-p = λ w e h. p-parity w h .code;
+    }
+
+pub circ-correcting : Correcting (Codeword 4) corrected corrected lost
+unfolding corrected lost
+circ-correcting =
+    record {
+      zeros = λ n j h. sum-zeros j n;
+      keeps₁ = λ w e h c. ap (handedOn w) (nearest-code 4 w (omega arith) c);
+      keeps₂ = λ w e h c. ap (handedOn w) (nearest-code 4 w (omega arith) c);
+      sure = λ w e h c. ap markOf (nearest-code 4 w (omega arith) c);
+    }
+
+-- ---- what becomes of a word
+
+module _ (w : List ℕ) (bytes : Bytes w) (short : length w ≤ 255) where
+  -- not marked: the codeword near it
+  pub found-near : lost w ≡ 0 → Near 4 w (corrected w)
+  unfolding lost corrected
+  found-near e = go (nearest 4 w) refl e
+    where
+      go : (o : Option (List ℕ)) → nearest 4 w ≡ o → markOf o ≡ 0 → Near 4 w (handedOn w o)
+      go (some c) p e = nearest-sound 4 w bytes c p
+      go none p e = absurd (omega arith)
+
+  -- marked: there is none, and the word is handed on as it came
+  pub lost-none : lost w ≡ 1 → (corrected w ≡ w) × ((c : List ℕ) → Near 4 w c → ⊥)
+  unfolding lost corrected
+  lost-none e = go (nearest 4 w) refl e
+    where
+      go : (o : Option (List ℕ)) → nearest 4 w ≡ o → markOf o ≡ 1 → (handedOn w o ≡ w) × ((c : List ℕ) → Near 4 w c → ⊥)
+      go (some c) p e = absurd (omega arith)
+      go none p e = (refl, nearest-none 4 w bytes (omega arith) short p)
+
+-- a word keeps its length
+pub length-corrected : (w : List ℕ) → length (corrected w) ≡ length w
+unfolding corrected nearest
+length-corrected w = go (verdict 4 w)
+  where
+    go : (v : Verdict) → length (handedOn w (mended w v)) ≡ length w
+    go verdicts.Clean = refl
+    go (verdicts.Change i b) = length-set w i b
+    go verdicts.Lost = refl

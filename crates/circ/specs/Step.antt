@@ -1,0 +1,47 @@
+-- A step of a writer or a reader: what it says, the state that it hands back, and what the outgoing buffer then holds.
+-- Assumes nothing.
+use Prim.Native.Nat.{ℕ}
+use mathlib.Core.Path.{_≡_, sym, ap}
+use mathlib.Core.List.{List, []}
+use lib.Dec.{eqb}
+use lib.ListN.{length}
+use borrow.Author.Tests.{eq-eqb, ne-eqb}
+use Rattle.outcome.specs.Say.{Say, done, refused, demand, cleared, leaves, cleared-wrong}
+
+pub record Step : Type 0 where
+  pub say : Say
+  pub next : List ℕ
+  pub out : List ℕ
+
+abbrev pub step : Say → List ℕ → List ℕ → Step
+step say next out = record { say = say; next = next; out = out }
+
+-- the state that is handed back: the new one if the step is done, and after a refusal the state as it was
+abbrev pub handedBack : Say → List ℕ → List ℕ → List ℕ
+handedBack (done vs) new old = new
+handedBack (refused n vs) new old = old
+
+-- a step whose answer is `say`, with the right length of its buffer
+abbrev pub stepOf : Say → ℕ → List ℕ → List ℕ → List ℕ → List ℕ → Step
+stepOf say right new next s old = step say (handedBack say next s) (leaves say right new old)
+
+-- what a step says to a frame and a buffer: refusals 1 and 2 in this order
+abbrev pub answerTo : ℕ → ℕ → List ℕ → List ℕ → List ℕ → Say
+answerTo incoming outgoing frame old values = demand (eqb (length frame) incoming) 1 (demand (eqb (length old) outgoing) 2 (done values))
+
+-- ---- its three ways
+
+module _ (incoming outgoing : ℕ) (values new next s frame old : List ℕ) where
+  abbrev pub stepped : Step
+  stepped = stepOf (answerTo incoming outgoing frame old values) outgoing new next s old
+
+  pub wrong-incoming : (length frame ≡ incoming → ⊥) → (after : List ℕ) → after ≡ cleared outgoing old → step (refused 1 []) s after ≡ stepped
+  wrong-incoming h after e = rw (ne-eqb (length frame) incoming h, e)
+
+  pub wrong-outgoing : length frame ≡ incoming → (length old ≡ outgoing → ⊥) → step (refused 2 []) s old ≡ stepped
+  wrong-outgoing h k =
+      rw (eq-eqb (length frame) incoming h, ne-eqb (length old) outgoing k)
+      (ap (λ (o : List ℕ). step (refused 2 []) s o) (sym (cleared-wrong outgoing old k)))
+
+  pub right : length frame ≡ incoming → length old ≡ outgoing → (next' new' : List ℕ) → next' ≡ next → new' ≡ new → step (done values) next' new' ≡ stepped
+  right h k next' new' e f = rw (eq-eqb (length frame) incoming h, eq-eqb (length old) outgoing k, e, f)

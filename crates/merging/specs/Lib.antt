@@ -1,0 +1,12 @@
+pub mod Rule
+pub mod Dsv
+pub mod Chosen
+pub mod Automaton
+pub mod Cases
+pub mod Ties
+pub mod Ready
+pub mod Taken
+pub mod Agree
+pub mod Traces
+pub mod Profiles
+pub mod Places

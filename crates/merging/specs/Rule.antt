@@ -1,0 +1,28 @@
+-- Which Merging bits are allowed (clauses 19.2, 19.3 and Annex E, with document 01's sentence).
+-- Assumes nothing.
+use mathlib.Core.Bool.{Bool, true, false, cond, _&&_}
+use mathlib.Core.List.{List, [], _∷_, _++_}
+use Prim.Native.Nat.{ℕ, suc, _+_}
+use lib.Dec.{eqb}
+use Rattle.bits.specs.Bits.{bitsOf}
+use Rattle.words.specs.Runs.{runs}
+
+-- the Sync Header of clause 19.2 (Annex E prints it without its last two digits)
+abbrev pub header : List ℕ
+header = bitsOf 24 0b100000000001000000000010
+
+-- bs begins with the bits ps
+abbrev pub starts : List ℕ → List ℕ → Bool
+starts [] bs = true
+starts (p ∷ ps) [] = false
+starts (p ∷ ps) (b ∷ bs) = eqb p b && starts ps bs
+
+-- how many Sync Headers stand in bs, wherever they begin
+unfoldable pub headers : List ℕ → ℕ
+headers [] = 0
+headers (b ∷ bs) = cond (starts header (b ∷ bs)) (suc (headers bs)) (headers bs)
+
+-- after the bits `past` and before the bits `next` the Merging bits m are allowed: the run rule holds, and no Sync Header is made beyond
+-- those that `past` and `next` have by themselves (a word has none; the Sync Header at its own place is one)
+unfoldable pub allowed : List ℕ → List ℕ → List ℕ → Bool
+allowed past next m = runs (past ++ (m ++ next)) && eqb (headers (past ++ (m ++ next))) (headers past + headers next)

@@ -1,0 +1,5 @@
+pub mod Words
+pub mod Runs
+pub mod Every
+pub mod LookUp
+pub mod Facts
