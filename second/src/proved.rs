@@ -1,9 +1,11 @@
 //! The proved crates, by the functions that crate `road` exports. An answer comes as a number: in the low byte 0 or document
 //! 01's number of the refusal, above it the values that come with it, 12 bits each.
 
+mod runs;
 mod sectors;
 mod words;
 
+pub use runs::*;
 pub use sectors::*;
 pub use words::*;
 

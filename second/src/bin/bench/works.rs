@@ -1,6 +1,7 @@
 //! What is timed: the unit, and the proved code with the targets that are set for it.
 
 use crate::{Crc, Work};
+use second::channel::*;
 use second::proved;
 use second::random::Random;
 use second::sector::{p_positions, P_CODEWORDS};
@@ -20,6 +21,8 @@ pub fn works() -> Vec<Work> {
     works.extend(edc(&sector));
     works.extend(sectors());
     works.extend(frames(&sector));
+    works.extend(circ(&sector));
+    works.extend(sections());
     works
 }
 
@@ -80,4 +83,46 @@ fn frames(sector: &[u8]) -> Vec<Work> {
         Work::new(name, Some(0.1), once)
     };
     steps.map(work).into()
+}
+
+fn circ(sector: &[u8]) -> Vec<Work> {
+    type Run = fn(&[u8], &mut [u8], &mut [u8]);
+    let mut f2 = vec![0; FRAME_BYTES];
+    proved::circ_write(sector, &mut [24, 32].repeat(FRAMES), &mut f2);
+    let work = |name, most, run: Run, frames: &[u8], lengths: [u8; 2]| {
+        let frames = frames.to_vec();
+        let mut out = vec![0; FRAMES * lengths[1] as usize];
+        let lengths = lengths.repeat(FRAMES);
+        let once = move || {
+            let mut steps = lengths.clone();
+            run(black_box(&frames), &mut steps, black_box(&mut out));
+            assert!(steps == [0; 2 * FRAMES]);
+        };
+        Work::new(name, Some(most), once)
+    };
+    vec![
+        work("CIRC writer, 98 frames", 15.0, proved::circ_write, sector, [24, 32]),
+        work("CIRC reader, 98 frames, undamaged", 25.0, proved::circ_read, &f2, [32, 24]),
+    ]
+}
+
+fn sections() -> Vec<Work> {
+    let mut random = Random::new(3);
+    let (frames, control) = (random.bytes(FRAME_BYTES), random.bytes(CONTROL_BYTES));
+    let mut channel = vec![0; PACKED];
+    proved::write_section(&mut SectionWriter::new(), &frames, &control, &mut channel);
+    let mut out = vec![0; PACKED];
+    let write = move || {
+        let mut state = SectionWriter::new();
+        let answer = proved::write_section(&mut state, black_box(&frames), &control, &mut out);
+        assert_eq!((answer, state.count), (0, 1));
+    };
+    let (mut bytes, mut marks) = (vec![0; READ_BYTES], vec![0; READ_BYTES]);
+    let read = move || {
+        assert_eq!(proved::read_section(black_box(&channel), &mut bytes, &mut marks), 0);
+    };
+    vec![
+        Work::new("write a Section", Some(40.0), write),
+        Work::new("read a Section", Some(10.0), read),
+    ]
 }
