@@ -1,5 +1,6 @@
 // Writing a Section. The state is three numbers, so that a caller can hold it and begin with any.
 ghost use mathlib.Core.Path.{_≡_};
+ghost use Rattle.channel.specs.State.{fresh};
 ghost use Rattle.channel.specs.WriteSay.{sayWritten, written};
 ghost use Rattle.road.specs.Coded.{coded};
 ghost use Rattle.road.specs.Sections.{WriteTold};
@@ -16,6 +17,19 @@ fn code(a: SectionWritten) -> u64
         SectionWritten::DiscFull => 7,
         SectionWritten::ImpossibleState => 9,
     }
+}
+
+// The state in which nothing is written yet.
+#[no_mangle]
+pub extern "C" fn road_new_section_writer(dsv: &mut i64, level: &mut i64, sections: &mut u64)
+    ensures { λ _. ⌜ (now (dsv .exit) ≡ fresh .dsv) × (now (level .exit) ≡ fresh .level) × (now (sections .exit) ≡ fresh .sections) ⌝ }
+{
+    let writer = SectionWriter::new();
+    let new_dsv = writer.dsv;
+    let new_level = writer.level;
+    *dsv = new_dsv;
+    *level = new_level;
+    *sections = writer.sections;
 }
 
 #[no_mangle]

@@ -19,6 +19,7 @@ extern "C" {
         out: *mut u8,
         out_length: usize,
     );
+    fn road_new_section_writer(dsv: *mut i64, level: *mut i64, sections: *mut u64);
     fn road_write_section(
         dsv: *mut i64,
         level: *mut i64,
@@ -53,6 +54,14 @@ pub fn circ_read(frames: &[u8], steps: &mut [u8], out: &mut [u8]) {
     let (bytes, length) = (frames.as_ptr(), frames.len());
     let (out, out_length) = (out.as_mut_ptr(), out.len());
     unsafe { road_circ_read(bytes, length, steps.as_mut_ptr(), steps.len(), out, out_length) }
+}
+
+/// The state in which nothing is written yet.
+pub fn new_section_writer() -> SectionWriter {
+    let mut state = SectionWriter { level: 0, dsv: i64::MAX, count: u64::MAX };
+    let SectionWriter { level, dsv, count } = &mut state;
+    unsafe { road_new_section_writer(dsv, level, count) }
+    state
 }
 
 /// One Section from any state, which becomes the next.

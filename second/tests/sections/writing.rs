@@ -9,6 +9,11 @@ fn there_and_back(state: &mut SectionWriter, frames: &[u8], control: &[u8]) {
     assert_eq!(same_read(&channel, [READ_BYTES; 2]), (0, as_read(frames, control)));
 }
 
+#[test]
+fn a_new_writer() {
+    assert_eq!(proved::new_section_writer(), SectionWriter::new());
+}
+
 /// 200 Sections in a row, each from the state that the one before handed back.
 #[test]
 fn random_bytes() {

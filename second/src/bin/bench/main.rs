@@ -2,6 +2,7 @@
 //! same run. A round times the unit and every work once, so that a slow spell meets all of them; medians are compared.
 //! With the argument `--strict` it fails where a work takes more than its target.
 
+mod report;
 mod works;
 
 use std::time::{Duration, Instant};
@@ -98,6 +99,7 @@ fn main() {
         }
     }
     let kept = print(&works);
+    report::print();
     if !kept && std::env::args().any(|argument| argument == "--strict") {
         std::process::exit(1);
     }
