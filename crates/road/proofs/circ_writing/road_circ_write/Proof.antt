@@ -1,7 +1,6 @@
 -- `road_circ_write` meets its contract: after each turn the run is what is left so far and behind it the rest (`Running`).
 -- Assumes nothing.
 use borrow.Author.Needs.{needs}
-use native.Mathlib.Omega.{arith}
 use Prim.Native.Nat.{_-_}
 use lib.ListN.{length, replicate}
 use Rattle.circ.specs.Steps.{writes}

@@ -2,7 +2,6 @@
 -- Assumes nothing.
 use borrow.Author.Needs.{needs}
 use mathlib.Core.Path.{_≡_, ap, _∙_}
-use lib.IntN.{ℤ}
 use Rattle.channel.specs.State.{fresh}
 use Rattle.channel.specs.declared.SectionWriter.{SectionWriter}
 use Rattle.road.proofs.section_writing.road_new_section_writer.Statement.{statement}
@@ -17,10 +16,11 @@ part of state a p q = p ∙ ap of q
 
 returns : tie.Need-returns
 returns c =
-    let new = c .before .before .new in
-    (part (λ s. s .dsv) (new .result) _ (search needs) (new .ensures),
-     part (λ s. s .level) (new .result) _ (search needs) (new .ensures),
-     ap (λ (s : SectionWriter). s .sections) (new .ensures))
+    let new = c .before .before .new in (
+      part (λ s. s .dsv) (new .result) _ (search needs) (new .ensures),
+      part (λ s. s .level) (new .result) _ (search needs) (new .ensures),
+      ap (λ (s : SectionWriter). s .sections) (new .ensures),
+    )
 
 pub road-new-section-writer-spec : {M : Type 1} → statement M
 road-new-section-writer-spec = tie.close (tie.spec new-requires returns)

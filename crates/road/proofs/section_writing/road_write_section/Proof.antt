@@ -1,7 +1,7 @@
 -- `road_write_section` meets its contract: it keeps the promise of `write`, and `code` says the answer as a number (`write-tells`).
 -- Assumes nothing.
 use borrow.Author.Needs.{needs}
-use mathlib.Core.Path.{_≡_, ap, _∙_}
+use mathlib.Core.Path.{_≡_, _∙_}
 use mathlib.Core.List.{List}
 use Prim.Native.Nat.{ℕ}
 use lib.IntN.{ℤ}
