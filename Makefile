@@ -1,5 +1,5 @@
-# `make` proves the crates and builds the programs; `make run` prints a report; `make test` is the gate.
-.PHONY: all run test
+# `make` proves the crates and builds the programs; `make run` prints a report; `make test` is the gate; `make bench` times the proved code.
+.PHONY: all run test bench
 
 # the image whose report `make run` prints
 IMAGE ?= crates/report/stdin
@@ -14,5 +14,11 @@ run:
 
 test:
 	rt fmt --check
+	rt staticlib road
 	cd second && cargo test --offline --release --quiet
 	rt ci
+
+bench:
+	rt staticlib road
+	rt check report
+	cd second && cargo run --offline --release --quiet --bin bench

@@ -5,6 +5,7 @@ pub mod circ;
 pub mod codeword;
 pub mod edc;
 pub mod field;
+pub mod proved;
 pub mod random;
 pub mod refusal;
 pub mod report;

@@ -1,7 +1,10 @@
 //! The benchmark: the time of each work as a ratio to the unit, one pass of a byte-table CRC-32 over 2,352 bytes, in the
 //! same run. A round times the unit and every work once, so that a slow spell meets all of them; medians are compared.
+//! With the argument `--strict` it fails where a work takes more than its target.
 
-use std::hint::black_box;
+mod report;
+mod works;
+
 use std::time::{Duration, Instant};
 
 const ROUNDS: usize = 31;
@@ -71,30 +74,34 @@ impl Work {
     }
 }
 
-/// The unit first, then what is held against it.
-fn works() -> Vec<Work> {
-    let sector: Vec<u8> = (0..2352).map(|n| (n * 7) as u8).collect();
-    let crc = Crc::new();
-    let unit = move || {
-        black_box(crc.pass(black_box(&sector)));
-    };
-    vec![Work::new("unit: CRC-32 by a byte table, 2,352 bytes", None, unit)]
+/// Whether every work keeps to its target.
+fn print(works: &[Work]) -> bool {
+    let unit = works[0].median();
+    println!("one unit is {:.2} µs, the median of {ROUNDS} rounds", unit * 1e6);
+    println!("{:>8} {:>8}  work", "units", "at most");
+    let mut kept = true;
+    for work in works {
+        let units = work.median() / unit;
+        let most = work.most.map_or(String::new(), |most| format!("{most:.2}"));
+        let slow = work.most.is_some_and(|most| units > most);
+        println!("{units:>8.2} {most:>8}  {}{}", work.name, if slow { ": too slow" } else { "" });
+        kept &= !slow;
+    }
+    kept
 }
 
 fn main() {
-    let mut works = works();
+    let mut works = works::works();
     for _ in 0..ROUNDS {
         for work in &mut works {
             let time = work.round().as_secs_f64() / work.passes as f64;
             work.times.push(time);
         }
     }
-    let unit = works[0].median();
-    println!("one unit is {:.2} µs, the median of {ROUNDS} rounds", unit * 1e6);
-    println!("{:>8} {:>8}  work", "units", "at most");
-    for work in &works {
-        let most = work.most.map_or(String::new(), |most| format!("{most:.2}"));
-        println!("{:>8.2} {most:>8}  {}", work.median() / unit, work.name);
+    let kept = print(&works);
+    report::print();
+    if !kept && std::env::args().any(|argument| argument == "--strict") {
+        std::process::exit(1);
     }
 }
 

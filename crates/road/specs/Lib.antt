@@ -1,0 +1,4 @@
+pub mod Coded
+pub mod Told
+pub mod Runs
+pub mod Sections

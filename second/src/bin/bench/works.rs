@@ -1,0 +1,128 @@
+//! What is timed: the unit, and the proved code with the targets that are set for it.
+
+use crate::{Crc, Work};
+use second::channel::*;
+use second::proved;
+use second::random::Random;
+use second::sector::{p_positions, P_CODEWORDS};
+use std::hint::black_box;
+
+/// The unit first, then what is held against it.
+pub fn works() -> Vec<Work> {
+    let sector = Random::new(1).bytes(2352);
+    let crc = Crc::new();
+    let unit = {
+        let sector = sector.clone();
+        move || {
+            black_box(crc.pass(black_box(&sector)));
+        }
+    };
+    let mut works = vec![Work::new("unit: CRC-32 by a byte table, 2,352 bytes", None, unit)];
+    works.extend(edc(&sector));
+    works.extend(sectors());
+    works.extend(frames(&sector));
+    works.extend(circ(&sector));
+    works.extend(sections());
+    works
+}
+
+fn edc(sector: &[u8]) -> Vec<Work> {
+    let sector = sector.to_vec();
+    let once = move || {
+        black_box(proved::edc_remainder(black_box(&sector)));
+    };
+    vec![Work::new("EDC of 2,352 bytes", Some(1.3), once)]
+}
+
+fn sectors() -> Vec<Work> {
+    let mut random = Random::new(2);
+    let data = random.bytes(2048);
+    let mut clean = vec![0; 2352];
+    assert_eq!(proved::write(1, [0x12, 0x34, 0x56], &data, &mut clean), 0);
+    let mut damaged = clean.clone();
+    for n in 0..P_CODEWORDS {
+        damaged[p_positions(n)[random.below(26)]] ^= random.change();
+    }
+    let mut out = vec![0; 2352];
+    let write = move || {
+        let answer = proved::write(1, [0x12, 0x34, 0x56], black_box(&data), black_box(&mut out));
+        assert_eq!(answer, 0);
+    };
+    let judged = clean.clone();
+    let judge = move || {
+        assert_eq!(proved::judge(black_box(&judged)) as u8, 0);
+    };
+    let repair = |received: Vec<u8>, changed: u64| {
+        let mut out = vec![0; 2352];
+        move || {
+            let answer = proved::repair(black_box(&received), black_box(&mut out));
+            assert_eq!(answer, changed << 8);
+        }
+    };
+    let each = repair(damaged, P_CODEWORDS as u64);
+    vec![
+        Work::new("write a Sector of Mode 01", Some(1.6), write),
+        Work::new("judge it", None, judge),
+        Work::new("repair it, clean", Some(1.6), repair(clean, 0)),
+        Work::new("repair it, a wrong byte in each P codeword", Some(5.0), each),
+    ]
+}
+
+fn frames(sector: &[u8]) -> Vec<Work> {
+    type Step = fn(&[u8], &mut [u8]) -> u64;
+    let steps: [(&'static str, Step); 3] = [
+        ("scramble a Sector", proved::scramble),
+        ("cut a Sector", proved::cut),
+        ("join its frames", proved::join),
+    ];
+    let work = |(name, step): (&'static str, Step)| {
+        let (sector, mut out) = (sector.to_vec(), vec![0; 2352]);
+        let once = move || {
+            assert_eq!(step(black_box(&sector), black_box(&mut out)), 0);
+        };
+        Work::new(name, Some(0.1), once)
+    };
+    steps.map(work).into()
+}
+
+fn circ(sector: &[u8]) -> Vec<Work> {
+    type Run = fn(&[u8], &mut [u8], &mut [u8]);
+    let mut f2 = vec![0; FRAME_BYTES];
+    proved::circ_write(sector, &mut [24, 32].repeat(FRAMES), &mut f2);
+    let work = |name, most, run: Run, frames: &[u8], lengths: [u8; 2]| {
+        let frames = frames.to_vec();
+        let mut out = vec![0; FRAMES * lengths[1] as usize];
+        let lengths = lengths.repeat(FRAMES);
+        let once = move || {
+            let mut steps = lengths.clone();
+            run(black_box(&frames), &mut steps, black_box(&mut out));
+            assert!(steps == [0; 2 * FRAMES]);
+        };
+        Work::new(name, Some(most), once)
+    };
+    vec![
+        work("CIRC writer, 98 frames", 15.0, proved::circ_write, sector, [24, 32]),
+        work("CIRC reader, 98 frames, undamaged", 25.0, proved::circ_read, &f2, [32, 24]),
+    ]
+}
+
+fn sections() -> Vec<Work> {
+    let mut random = Random::new(3);
+    let (frames, control) = (random.bytes(FRAME_BYTES), random.bytes(CONTROL_BYTES));
+    let mut channel = vec![0; PACKED];
+    proved::write_section(&mut SectionWriter::new(), &frames, &control, &mut channel);
+    let mut out = vec![0; PACKED];
+    let write = move || {
+        let mut state = SectionWriter::new();
+        let answer = proved::write_section(&mut state, black_box(&frames), &control, &mut out);
+        assert_eq!((answer, state.count), (0, 1));
+    };
+    let (mut bytes, mut marks) = (vec![0; READ_BYTES], vec![0; READ_BYTES]);
+    let read = move || {
+        assert_eq!(proved::read_section(black_box(&channel), &mut bytes, &mut marks), 0);
+    };
+    vec![
+        Work::new("write a Section", Some(40.0), write),
+        Work::new("read a Section", Some(10.0), read),
+    ]
+}

@@ -1,0 +1,45 @@
+//! Sectors, scrambling and F1-frames.
+
+extern "C" {
+    fn road_write(
+        mode: u8,
+        minute: u8,
+        second: u8,
+        frame: u8,
+        user: *const u8,
+        length: usize,
+        out: *mut u8,
+        out_length: usize,
+    ) -> u64;
+    fn road_judge(sector: *const u8, length: usize) -> u64;
+    fn road_repair(received: *const u8, length: usize, out: *mut u8, out_length: usize) -> u64;
+    fn road_scramble(sector: *const u8, length: usize, out: *mut u8, out_length: usize) -> u64;
+    fn road_cut(scrambled: *const u8, length: usize, out: *mut u8, out_length: usize) -> u64;
+    fn road_join(frames: *const u8, length: usize, out: *mut u8, out_length: usize) -> u64;
+}
+
+pub fn write(mode: u8, address: [u8; 3], data: &[u8], out: &mut [u8]) -> u64 {
+    let [minute, second, frame] = address;
+    let (user, length) = (data.as_ptr(), data.len());
+    unsafe { road_write(mode, minute, second, frame, user, length, out.as_mut_ptr(), out.len()) }
+}
+
+pub fn judge(sector: &[u8]) -> u64 {
+    unsafe { road_judge(sector.as_ptr(), sector.len()) }
+}
+
+pub fn repair(received: &[u8], out: &mut [u8]) -> u64 {
+    unsafe { road_repair(received.as_ptr(), received.len(), out.as_mut_ptr(), out.len()) }
+}
+
+pub fn scramble(sector: &[u8], out: &mut [u8]) -> u64 {
+    unsafe { road_scramble(sector.as_ptr(), sector.len(), out.as_mut_ptr(), out.len()) }
+}
+
+pub fn cut(scrambled: &[u8], out: &mut [u8]) -> u64 {
+    unsafe { road_cut(scrambled.as_ptr(), scrambled.len(), out.as_mut_ptr(), out.len()) }
+}
+
+pub fn join(frames: &[u8], out: &mut [u8]) -> u64 {
+    unsafe { road_join(frames.as_ptr(), frames.len(), out.as_mut_ptr(), out.len()) }
+}

@@ -1,0 +1,60 @@
+//! The field, codewords and the EDC.
+
+extern "C" {
+    fn road_times_alpha(x: u8) -> u8;
+    fn road_product(a: u8, b: u8) -> u8;
+    fn road_inverse(a: u8) -> u8;
+    fn road_verdict_of_two(word: *const u8, length: usize) -> u64;
+    fn road_verdict_of_four(word: *const u8, length: usize) -> u64;
+    fn road_parity_of_two(word: *const u8, length: usize) -> u32;
+    fn road_parity_at_end(word: *const u8, length: usize) -> u32;
+    fn road_parity_at_12(word: *const [u8; 28]) -> u32;
+    fn road_edc_remainder(bytes: *const u8, length: usize) -> u32;
+    fn road_edc_parity(bytes: *const u8, length: usize) -> u32;
+    fn road_edc_holds(bytes: *const u8, length: usize) -> bool;
+}
+
+pub fn times_alpha(x: u8) -> u8 {
+    unsafe { road_times_alpha(x) }
+}
+
+pub fn product(a: u8, b: u8) -> u8 {
+    unsafe { road_product(a, b) }
+}
+
+pub fn inverse(a: u8) -> u8 {
+    unsafe { road_inverse(a) }
+}
+
+pub fn verdict_of_two(word: &[u8]) -> u64 {
+    unsafe { road_verdict_of_two(word.as_ptr(), word.len()) }
+}
+
+pub fn verdict_of_four(word: &[u8]) -> u64 {
+    unsafe { road_verdict_of_four(word.as_ptr(), word.len()) }
+}
+
+pub fn parity_of_two(word: &[u8]) -> [u8; 2] {
+    let [a, b, ..] = unsafe { road_parity_of_two(word.as_ptr(), word.len()) }.to_le_bytes();
+    [a, b]
+}
+
+pub fn parity_at_end(word: &[u8]) -> [u8; 4] {
+    unsafe { road_parity_at_end(word.as_ptr(), word.len()) }.to_le_bytes()
+}
+
+pub fn parity_at_12(word: &[u8; 28]) -> [u8; 4] {
+    unsafe { road_parity_at_12(word) }.to_le_bytes()
+}
+
+pub fn edc_remainder(bytes: &[u8]) -> u32 {
+    unsafe { road_edc_remainder(bytes.as_ptr(), bytes.len()) }
+}
+
+pub fn edc_parity(bytes: &[u8]) -> [u8; 4] {
+    unsafe { road_edc_parity(bytes.as_ptr(), bytes.len()) }.to_le_bytes()
+}
+
+pub fn edc_holds(bytes: &[u8]) -> bool {
+    unsafe { road_edc_holds(bytes.as_ptr(), bytes.len()) }
+}

@@ -1,0 +1,63 @@
+//! Sectors held against the proved code: both sides from buffers that held (AA), the same answer and the same bytes.
+
+mod damaged;
+mod refusals;
+
+use second::codeword::fill;
+use second::random::Random;
+use second::sector::*;
+use second::{edc, proved};
+
+/// Judges and repairs a Sector on both sides; what repair handed out, with the changed count.
+fn same_judged_and_repaired(received: &[u8]) -> Option<(usize, Vec<u8>)> {
+    let address = |passed: Passed| {
+        [passed.mode, passed.address[0], passed.address[1], passed.address[2]]
+            .map(usize::from)
+            .to_vec()
+    };
+    assert_eq!(proved::judge(received), proved::coded(judge(received), address));
+    same_repaired(received, LENGTH)
+}
+
+fn same_repaired(received: &[u8], out_length: usize) -> Option<(usize, Vec<u8>)> {
+    let (mut expected, mut found) = (vec![0xAA; out_length], vec![0xAA; out_length]);
+    let answer = repair(received, &mut expected);
+    assert_eq!(proved::repair(received, &mut found), proved::coded(answer, |count| vec![count]));
+    assert!(found == expected);
+    answer.ok().map(|count| (count, found))
+}
+
+fn same_written(mode: u8, address: [u8; 3], data: &[u8], out_length: usize) -> Vec<u8> {
+    let (mut expected, mut found) = (vec![0xAA; out_length], vec![0xAA; out_length]);
+    let answer = proved::coded_done(write(mode, address, data, &mut expected));
+    assert_eq!(proved::write(mode, address, data, &mut found), answer);
+    assert!(found == expected);
+    found
+}
+
+/// A correct Sector of random data, by the proved writer.
+fn sector(random: &mut Random, mode: u8) -> Vec<u8> {
+    let data = random.bytes(data_length(mode).unwrap());
+    let mut out = vec![0; LENGTH];
+    assert_eq!(proved::write(mode, random.address(), &data, &mut out), 0);
+    out
+}
+
+/// P and Q parity worked out afresh, over whatever stands before them.
+fn set_parity(sector: &mut [u8]) {
+    for positions in (0..P_CODEWORDS).map(p_positions).chain((0..Q_CODEWORDS).map(q_positions)) {
+        let mut word: Vec<u8> = positions.iter().map(|&at| sector[at]).collect();
+        let data = word.len() - 2;
+        fill(&mut word, data, 2);
+        for (&at, &byte) in positions.iter().zip(&word) {
+            sector[at] = byte;
+        }
+    }
+}
+
+/// EDC and parity worked out afresh.
+fn seal(sector: &mut [u8]) {
+    let four = edc::four_bytes(&sector[..2064]);
+    sector[2064..2068].copy_from_slice(&four);
+    set_parity(sector);
+}
