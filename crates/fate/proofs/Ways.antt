@@ -1,10 +1,9 @@
 -- The ways out of `fate_of`: each answer of repair has its fate.
 -- Assumes nothing.
 use mathlib.Core.Path.{_≡_, refl, sym, ap, _∙_, subst}
-use mathlib.Core.List.{List, [], _∷_}
+use mathlib.Core.List.{List}
 use Prim.Native.Nat.{ℕ}
 use borrow.Author.Tests.{eq-eqb, ne-eqb}
-use Rattle.address.specs.declared.HeaderTime.{HeaderTime}
 use Rattle.sector.specs.Layout.{timeOf, zeros}
 use Rattle.repair.specs.Repair.{Repairs, sayOf}
 use Rattle.repair.specs.declared.Repaired.{Repaired}

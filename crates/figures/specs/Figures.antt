@@ -5,14 +5,12 @@ use mathlib.Core.Bool.{Bool, true, false, _&&_}
 use mathlib.Core.List.{List, [], _∷_, _++_, map}
 use Prim.Native.Nat.{ℕ, zero, suc, _-_, _<_}
 use native.Mathlib.Nat.{not-suc-le-zero, le-of-suc-le-suc}
-use lib.Bits.{bitXor}
 use lib.Dec.{T}
 use lib.ListN.{length, getD, set, replicate, take}
 use Rattle.outcome.specs.Table.{allBelow, and-left, and-right, true-of}
 use Rattle.field.specs.Field.{timesAlpha, power, mulBits, mul}
 use Rattle.codeword.specs.Code.{sum}
 use Rattle.rspc.specs.Words.{place, pNumber, qNumber, pWord}
-use Rattle.sector.specs.Layout.{zeros}
 use Rattle.sector.specs.Same.{same, same-equal}
 use Rattle.scrambling.specs.Sequence.{sequence, bit, register, next}
 use Rattle.circ.specs.Rows.{rowDelay, beforeC2, between, afterC1}

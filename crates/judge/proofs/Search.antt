@@ -8,7 +8,7 @@ use native.Mathlib.Omega.{arith}
 use lib.Bits.{bitXor}
 use lib.ListN.{length, getD, take}
 use Rattle.outcome.specs.Bytes.{Bytes, bytes-take}
-use Rattle.outcome.specs.First.{First, firstBelow, found-first}
+use Rattle.outcome.specs.First.{firstBelow, found-first}
 use Rattle.field.specs.Field.{timesAlpha, power, mul}
 use Rattle.field.specs.Laws.{mul-power-suc}
 use Rattle.codeword.specs.Code.{sum, Codeword}

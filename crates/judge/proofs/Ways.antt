@@ -1,11 +1,11 @@
 -- The ways out of judging, each with the tests that lead to it: the order of document 01.
 -- Assumes nothing.
-use mathlib.Core.Path.{_≡_, refl, sym, ap, _∙_}
+use mathlib.Core.Path.{_≡_, sym, ap, _∙_}
 use mathlib.Core.Bool.{Bool, true, false, not}
 use mathlib.Core.List.{List, [], _∷_}
 use Prim.Native.Nat.{ℕ, _≤_, _<_}
 use borrow.Author.Tests.{eq-eqb, ne-eqb, lt-leb, le-leb, lt-ltb, le-ltb, not-true, not-false}
-use lib.ListN.{length, getD, take}
+use lib.ListN.{length, take}
 use Rattle.outcome.specs.Say.{Say, refused}
 use Rattle.outcome.specs.First.{firstBelow}
 use Rattle.edc.specs.Bits.{bits}

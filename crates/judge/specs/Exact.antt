@@ -1,34 +1,30 @@
 -- Judging passes exactly the correct Sectors, each with its mode and address.
 -- Assumes nothing.
-use mathlib.Core.Path.{_≡_, refl, sym, ap, _∙_, subst}
+use mathlib.Core.Path.{_≡_, refl, sym, ap, _∙_}
 use mathlib.Core.Bool.{Bool, true, false, not, cond}
-use mathlib.Core.Logic.{_⊎_, inl, inr}
 use mathlib.Core.List.{List, [], _∷_}
 use Prim.Native.Nat.{ℕ, zero, suc, _≤_, _<_}
 use native.Mathlib.Omega.{arith}
-use borrow.Author.Tests.{eq-eqb, ne-eqb, eqb-true, le-leb, leb-true, lt-ltb, le-ltb, ltb-true, ltb-false, not-false, not-true}
+use borrow.Author.Tests.{eq-eqb, eqb-true, le-leb, leb-true, le-ltb, ltb-true, ltb-false, not-false}
 use lib.Dec.{eqb, leb, ltb}
 use lib.ListN.{length, take, drop}
-use Rattle.outcome.specs.Say.{Say, done, refused, demand, demand-met}
+use Rattle.outcome.specs.Say.{Say, done, refused, demand, demand-met, never}
 use Rattle.outcome.specs.Bytes.{Bytes}
-use Rattle.outcome.specs.First.{First, firstBelow, first-below}
+use Rattle.outcome.specs.First.{firstBelow, first-below}
 use Rattle.codeword.specs.Code.{Codeword}
 use Rattle.codeword.specs.Nearest.{isCodeword}
 use Rattle.codeword.specs.NearLaws.{code-of-test, test-of-code}
 use Rattle.edc.specs.Bits.{bits}
-use Rattle.edc.specs.Edc.{remainder, isZero, Divisible}
+use Rattle.edc.specs.Edc.{remainder, isZero}
 use Rattle.edc.specs.Zero.{test-divisible, divisible-test}
 use Rattle.rspc.specs.Words.{pWord, qWord}
 use Rattle.address.specs.Address.{inRange}
 use Rattle.sector.specs.Layout.{sync, bytesFrom, timeOf, modeOf, zeros}
-use Rattle.sector.specs.Correct.{Head, Empty, Protected, Correct, CorrectMode01}
+use Rattle.sector.specs.Correct.{Empty, Protected, Correct}
 use Rattle.sector.specs.Same.{same, same-equal, equal-same}
 use Rattle.judge.specs.declared.Parity.{Parity}
 use Rattle.judge.specs.declared.Parity.the-variants.{P, Q}
 use Rattle.judge.specs.Judging.{wordsOf, failing, demandEach, passing, judgingMode01, judgingMode00, byMode, judging}
-
-never : {n : ℕ} {u v : List ℕ} {A : Type 0} → refused n u ≡ done v → A
-never e = let z : _≡_ {A = ℕ} 0 1 = cc in absurd (omega arith)
 
 -- ---- a demand that is passed was met, and one that is met is passed
 

@@ -1,9 +1,10 @@
 -- What every entry answers (document 01, "Numbers that come back"), and what a refusal leaves in an outgoing buffer.
 -- Assumes nothing.
-use mathlib.Core.Path.{_≡_, _∙_, sym, ap}
+use mathlib.Core.Path.{_≡_}
 use mathlib.Core.Bool.{Bool, true, false, cond}
 use mathlib.Core.List.{List, []}
 use Prim.Native.Nat.{ℕ}
+use native.Mathlib.Omega.{arith}
 use borrow.Author.Tests.{eq-eqb, ne-eqb}
 use lib.Dec.{eqb}
 use lib.ListN.{length, replicate}
@@ -53,3 +54,7 @@ demand-met t n rest e = rw e
 
 pub demand-unmet : (t : Bool) (n : ℕ) (rest : Say) → t ≡ false → demand t n rest ≡ refused n []
 demand-unmet t n rest e = rw e
+
+-- nothing is both refused and done
+pub never : {n : ℕ} {u v : List ℕ} {A : Type 0} → refused n u ≡ done v → A
+never e = let z : _≡_ {A = ℕ} 0 1 = cc in absurd (omega arith)

@@ -7,8 +7,8 @@ use mathlib.Core.Option.{Option, none, some}
 use Prim.Native.Nat.{ℕ, _+_, _-_, _<_, _≤_}
 use native.Mathlib.Omega.{arith}
 use lib.Dec.{T, eqb}
-use lib.ListN.{length, getD, take, drop, length-append, length-drop}
-use lib.Seq.{length-take-le, take-at, take-take, getD-append-add, getD-drop, drop-at}
+use lib.ListN.{length, take, drop, length-append, length-drop}
+use lib.Seq.{length-take-le, take-at, take-take, drop-at}
 use Rattle.outcome.specs.Bytes.{Bytes}
 use Rattle.outcome.specs.Lengths.{same-lengths}
 use Rattle.outcome.specs.Table.{below, all-below, true-of, of-true}
@@ -24,7 +24,7 @@ use Rattle.rspc.specs.Put.{QPut, PutQ}
 use Rattle.sector.specs.Layout.{sync, zeros, length-zeros}
 use Rattle.repair.specs.Repair.{Sought}
 use Rattle.repair.specs.Laws.{sought-near}
-use Rattle.repair.specs.Candidate.{Candidate, FoundFor}
+use Rattle.repair.specs.Candidate.{FoundFor}
 
 -- ---- a codeword that was found is near, and one that is near is found
 

@@ -7,7 +7,7 @@ use Prim.Native.Nat.{ℕ}
 use borrow.Author.Tests.{not-true, not-false}
 use lib.Dec.{eqb}
 use lib.ListN.{length, replicate}
-use Rattle.outcome.specs.Say.{Say, done, refused, cleared, cleared-right, cleared-wrong}
+use Rattle.outcome.specs.Say.{done, refused, cleared, cleared-right, cleared-wrong}
 use Rattle.outcome.specs.Bytes.{Bytes}
 use Rattle.outcome.specs.Lengths.{same-lengths}
 use Rattle.codeword.specs.Code.{changes}

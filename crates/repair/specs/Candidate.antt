@@ -1,15 +1,15 @@
 -- The only Sector that can be sought: what came in with each P codeword mended, Sync put right and Q worked out afresh.
 -- Assumes nothing.
-use mathlib.Core.Path.{_≡_, refl, sym, ap, _∙_, subst}
+use mathlib.Core.Path.{_≡_, sym, _∙_, subst}
 use mathlib.Core.Bool.{Bool, true, false, _&&_}
 use mathlib.Core.List.{List}
-use Prim.Native.Nat.{ℕ, _<_, _≤_}
+use Prim.Native.Nat.{ℕ, _<_}
 use native.Mathlib.Omega.{arith}
 use borrow.Author.Tests.{eq-eqb, eqb-true}
 use lib.Dec.{T, eqb}
 use lib.ListN.{length, take}
 use Rattle.outcome.specs.Bytes.{Bytes}
-use Rattle.outcome.specs.Table.{and-left, and-right, and-both, true-of, of-true}
+use Rattle.outcome.specs.Table.{and-left, and-right, true-of, of-true}
 use Rattle.codeword.specs.Code.{Codeword, Near}
 use Rattle.codeword.specs.NearLaws.{near-unique}
 use Rattle.edc.specs.Bits.{bits}
@@ -20,10 +20,9 @@ use Rattle.rspc.specs.Cover.{length-p, p-covers}
 use Rattle.rspc.specs.Parity.{q-one}
 use Rattle.address.specs.Address.{inRange}
 use Rattle.sector.specs.Layout.{sync, bytesFrom, timeOf, modeOf, zeros}
-use Rattle.sector.specs.Correct.{Head, Protected, Correct, CorrectMode01}
 use Rattle.sector.specs.Same.{same, same-equal, equal-same}
 use Rattle.sector.specs.Whole.{whole}
-use Rattle.repair.specs.Repair.{NearP, Sought}
+use Rattle.repair.specs.Repair.{Sought}
 use Rattle.repair.specs.Laws.{sought-near}
 
 -- the rules of Mode 01 that no parity settles: mode, address, EDC and Intermediate field

@@ -1,18 +1,18 @@
 -- Repair beside judging and writing: the certificate is what judging says, and what was written comes back.
 -- Assumes nothing.
-use mathlib.Core.Path.{_≡_, refl, sym, ap, _∙_}
+use mathlib.Core.Path.{_≡_, sym, ap, _∙_}
 use mathlib.Core.List.{List, [], _∷_}
 use Prim.Native.Nat.{ℕ}
 use native.Mathlib.Omega.{arith}
 use lib.ListN.{length}
-use Rattle.outcome.specs.Say.{Say, done, refused}
+use Rattle.outcome.specs.Say.{Say, done}
 use Rattle.outcome.specs.Bytes.{Bytes}
 use Rattle.address.specs.declared.HeaderTime.{HeaderTime}
 use Rattle.sector.specs.Layout.{timeOf, modeOf}
-use Rattle.sector.specs.Correct.{Correct, CorrectMode01}
+use Rattle.sector.specs.Correct.{CorrectMode01}
 use Rattle.judge.specs.Judging.{passing, judging}
 use Rattle.judge.specs.Exact.{judge-sound, judge-complete}
-use Rattle.writer.specs.Write.{Asked, Writes, refuses, writes}
+use Rattle.writer.specs.Write.{Writes, refuses, writes}
 use Rattle.repair.specs.Repair.{Repairs}
 use Rattle.repair.specs.Laws.{certificate-given, certificate-true}
 

@@ -2,11 +2,11 @@
 -- Assumes nothing.
 use mathlib.Core.Path.{_≡_, refl, sym, ap, _∙_, subst}
 use mathlib.Core.List.{List, [], _∷_}
-use Prim.Native.Nat.{ℕ, zero, suc, _<_, _≤_}
+use Prim.Native.Nat.{ℕ, _<_}
 use native.Mathlib.Omega.{arith}
 use lib.ListN.{length, replicate}
-use Rattle.outcome.specs.Say.{Say, done, refused, cleared, cleared-right}
-use Rattle.codeword.specs.Code.{Codeword, changes, Near}
+use Rattle.outcome.specs.Say.{Say, done, refused, cleared, cleared-right, never}
+use Rattle.codeword.specs.Code.{changes, Near}
 use Rattle.codeword.specs.Changes.{changes-self, changes-none}
 use Rattle.codeword.specs.NearLaws.{near-unique}
 use Rattle.rspc.specs.Words.{pWord}
@@ -14,7 +14,7 @@ use Rattle.rspc.specs.Cover.{length-p, p-covers}
 use Rattle.rspc.specs.Parity.{bytes-p}
 use Rattle.sector.specs.Correct.{CorrectMode01}
 use Rattle.sector.specs.Whole.{covered-one}
-use Rattle.repair.specs.Repair.{NearP, Sought, Repairs, wrong-incoming, wrong-outgoing, none-near, handed-out}
+use Rattle.repair.specs.Repair.{Sought, Repairs, wrong-incoming, wrong-outgoing, none-near, handed-out}
 
 -- each P codeword of the Sector that is sought is the one near what came in
 pub sought-near : (r s : List ℕ) → Sought r s → (n : ℕ) → n < 86 → Near 2 (pWord r n) (pWord s n)
@@ -62,9 +62,6 @@ module _ (r old : List ℕ) (lr : length r ≡ 2352) (lo : length old ≡ 2352) 
   pub repair-refuses : {a : Say} {new : List ℕ} → ((s : List ℕ) → Sought r s → ⊥) → Repairs r old a new → (a ≡ refused 5 []) × (new ≡ replicate 2352 0)
   repair-refuses n h =
       let e = repair-one r old h (none-near lr lo n) in (e .0, e .1 ∙ cleared-right 2352 old lo)
-
-never : {n : ℕ} {u v : List ℕ} {A : Type 0} → refused n u ≡ done v → A
-never e = let z : _≡_ {A = ℕ} 0 1 = cc in absurd (omega arith)
 
 done-same : {u v : List ℕ} → done u ≡ done v → u ≡ v
 done-same e = cc

@@ -2,12 +2,12 @@
 -- Assumes nothing.
 use mathlib.Core.Path.{_≡_, refl, subst, sym}
 use mathlib.Core.Logic.{_⊎_, inl, inr}
-use Prim.Native.Nat.{ℕ, suc, _+_, _≤_, _<_}
+use Prim.Native.Nat.{ℕ, suc, _+_, _≤_}
 use native.Mathlib.Omega.{arith}
 use Rattle.text.specs.declared.Counts.{Counts}
 use Rattle.text.specs.declared.Fate.{Fate}
-use Rattle.text.specs.Counting.{largest, noneCounted, countedWith, OneMoreOf, Room, counted-right}
-use Rattle.text.specs.Report.{isClean, isRepaired, isRefused, one-fate}
+use Rattle.text.specs.Counting.{largest, noneCounted, countedWith, Room, counted-right}
+use Rattle.text.specs.Report.{one-fate}
 
 -- every Sector that was counted has one fate, and there are at most n of them
 pub record AddUp (n : ℕ) (c : Counts) : Type 0 where

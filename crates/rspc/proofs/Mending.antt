@@ -13,7 +13,7 @@ use Rattle.codeword.specs.Fault.{fault, cure}
 use Rattle.codeword.specs.FaultLaws.{nearest-by-sums}
 use Rattle.codeword.specs.declared.Fault.{Fault}
 use Rattle.codeword.specs.declared.Fault.the-variants.{Clean, At, Lost}
-use Rattle.rspc.specs.Words.{place, pNumber, pWord}
+use Rattle.rspc.specs.Words.{pNumber, pWord}
 use Rattle.rspc.specs.Cover.{length-p, p-at}
 use Rattle.rspc.specs.Mend.{pPlace, explained}
 use Rattle.rspc.specs.Pass.{foundOr, isFound, handedOn}

@@ -12,7 +12,7 @@ use lib.ListN.{length, getD, set, take, drop, length-set}
 use lib.Seq.{take-set-le, drop-set-lt}
 use Rattle.outcome.specs.First.{lt-or-le}
 use Rattle.outcome.specs.Table.{allBelow}
-use Rattle.codeword.specs.Code.{sum, sums}
+use Rattle.codeword.specs.Code.{sum}
 use Rattle.codeword.specs.Nearest.{nearest}
 use Rattle.codeword.specs.Fault.{fault}
 use Rattle.codeword.specs.FaultLaws.{fault-inside}

@@ -7,7 +7,6 @@ use native.Mathlib.Omega.{arith}
 use lib.ListN.{length, getD, take, drop, length-take, length-drop}
 use lib.Seq.{getD-take, getD-drop}
 use Rattle.codeword.specs.Code.{Codeword}
-use Rattle.sweep.specs.Columns.{column}
 use Rattle.sweep.specs.Rows.{length-column, column-at}
 use Rattle.rspc.specs.Words.{place, qNumber, pWord, qWord}
 use Rattle.rspc.specs.Cover.{length-p, p-at, length-q, q-at, q-data, q-parity}

@@ -1,18 +1,14 @@
 -- Which bytes of a Sector the codewords run over: each of bytes 12 to 2,247 stands in exactly one P codeword, each of bytes
 -- 2,248 to 2,351 is parity of exactly one Q codeword, and the rest of a Q codeword lies in bytes 12 to 2,247.
 -- Assumes nothing.
-use mathlib.Core.Path.{_≡_, refl, sym, ap, ap₂, _∙_, subst}
+use mathlib.Core.Path.{_≡_, sym, ap, _∙_}
 use mathlib.Core.Logic.{_⊎_, inl, inr}
-use mathlib.Core.Bool.{Bool, true, false, cond}
-use mathlib.Core.List.{List, [], _∷_}
-use Prim.Native.Nat.{ℕ, zero, suc, _+_, _-_, _*_, _/_, _%_, _<_, _≤_}
-use native.Mathlib.Nat.{mod-lt}
+use mathlib.Core.List.{List}
+use Prim.Native.Nat.{ℕ, _+_, _-_, _*_, _/_, _%_, _<_, _≤_}
 use native.Mathlib.Omega.{arith}
 use borrow.Author.Tests.{lt-ltb, le-ltb}
-use lib.Dec.{ltb}
 use lib.ListN.{length, getD}
 use lib.Seq.{ext-getD}
-use Rattle.outcome.specs.Bytes.{Bytes}
 use Rattle.outcome.specs.Table.{tabulated-at, tabulated-same, length-tabulated}
 use Rattle.outcome.specs.First.{lt-or-le}
 use Rattle.rspc.specs.Words.{place, pNumber, qNumber, pWord, qWord}

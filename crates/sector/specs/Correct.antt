@@ -12,7 +12,7 @@ use Rattle.rspc.specs.Words.{pWord, qWord}
 use Rattle.address.specs.Address.{inRange}
 use Rattle.sector.specs.Layout.{sync, bytesFrom, timeOf, modeOf, zeros}
 
--- the rules for each mode
+-- the rules that every mode shares
 pub record Head (s : List ℕ) : Type 0 where
   pub long : length s ≡ 2352
   pub bytes : Bytes s

@@ -1,6 +1,6 @@
 -- A Sector is its Sync field, the bytes that P protects and the Q parity; what is determined by what.
 -- Assumes nothing.
-use mathlib.Core.Path.{_≡_, refl, sym, ap, _∙_}
+use mathlib.Core.Path.{_≡_, sym, ap, _∙_}
 use mathlib.Core.Logic.{_⊎_, inl, inr}
 use mathlib.Core.List.{List}
 use Prim.Native.Nat.{ℕ, _<_, _≤_}
@@ -10,7 +10,7 @@ use lib.Seq.{ext-getD, getD-take}
 use Rattle.outcome.specs.First.{lt-or-le}
 use Rattle.rspc.specs.Cover.{SameCovered, SameQParity}
 use Rattle.rspc.specs.Parity.{q-one}
-use Rattle.sector.specs.Correct.{Head, Protected, Correct, CorrectMode01}
+use Rattle.sector.specs.Correct.{CorrectMode01}
 
 pub whole : (s t : List ℕ) → length s ≡ 2352 → length t ≡ 2352 → take 12 s ≡ take 12 t → SameCovered s t → SameQParity s t → s ≡ t
 whole s t ls lt sync covered parity = ext-getD 0 s t (ls ∙ sym lt) (λ i h. at i (omega arith) (lt-or-le i 12) (lt-or-le i 2248))

@@ -1,13 +1,13 @@
 -- The ways out of the writer, each with the tests that lead to it: the order 2, 3, 1, 4.
 -- Assumes nothing.
-use mathlib.Core.Path.{_≡_, refl, sym, ap, _∙_, subst}
+use mathlib.Core.Path.{_≡_, sym, _∙_, subst}
 use mathlib.Core.Bool.{Bool, true, false, not, cond}
 use mathlib.Core.List.{List, []}
 use Prim.Native.Nat.{ℕ, _≤_, _<_}
 use borrow.Author.Tests.{eq-eqb, ne-eqb, le-leb, lt-leb, not-true, not-false}
 use lib.Dec.{eqb}
 use lib.ListN.{length}
-use Rattle.outcome.specs.Say.{Say, done, refused, cleared, cleared-wrong}
+use Rattle.outcome.specs.Say.{done, refused, cleared, cleared-wrong}
 use Rattle.outcome.specs.Bytes.{Bytes}
 use Rattle.outcome.specs.Lengths.{same-lengths}
 use Rattle.address.specs.Address.{inRange}

@@ -1,20 +1,19 @@
 -- A Sector as it is laid out: Sync, address and mode, the user data, and zeros to the end (clause 14). In Modes 00 and 02 that is
 -- all; in Mode 01 the EDC and the parities are put in from byte 2,064 on.
 -- Assumes nothing.
-use mathlib.Core.Path.{_≡_, refl, sym, ap, ap₂, _∙_, subst}
-use mathlib.Core.Bool.{Bool, true, false}
-use mathlib.Core.List.{List, [], _∷_, _++_, append-nil}
+use mathlib.Core.Path.{_≡_, refl, sym, ap, _∙_, subst}
+use mathlib.Core.Bool.{true}
+use mathlib.Core.List.{List, [], _∷_, _++_}
 use Prim.Native.Nat.{ℕ, zero, suc, _+_, _-_, _<_, _≤_}
 use native.Mathlib.Nat.{zero-add, suc-add}
 use native.Mathlib.Omega.{arith}
-use lib.ListN.{length, getD, take, drop, replicate, length-append, length-take, length-drop, length-replicate}
-use lib.Seq.{getD-take, take-take, take-all, drop-append-le, take-append-le, take-at, drop-at, take-nil}
+use lib.ListN.{length, getD, take, drop, length-append}
+use lib.Seq.{getD-take, take-take, take-at, drop-at, take-nil}
 use Rattle.outcome.specs.Bytes.{Bytes}
-use Rattle.edc.specs.Edc.{Divisible}
 use Rattle.address.specs.Address.{inRange}
 use Rattle.address.specs.declared.HeaderTime.{HeaderTime}
-use Rattle.sector.specs.Layout.{sync, bytesFrom, timeOf, modeOf, userLength, userData, zeros, length-zeros}
-use Rattle.sector.specs.Correct.{Head, Empty, Protected, Correct}
+use Rattle.sector.specs.Layout.{sync, bytesFrom, timeOf, modeOf, userLength, zeros, length-zeros}
+use Rattle.sector.specs.Correct.{Empty, Protected}
 use Rattle.writer.specs.Write.{Asked}
 
 -- bytes 0 to 15

@@ -1,24 +1,24 @@
 -- What is written is correct, and it is the only Sector that is so: for Mode 01 the EDC, P and Q bytes are the only ones that
 -- make it correct.
 -- Assumes nothing.
-use mathlib.Core.Path.{_≡_, refl, sym, ap, ap₂, _∙_, subst}
+use mathlib.Core.Path.{_≡_, refl, sym, ap, _∙_, subst}
 use mathlib.Core.Logic.{_⊎_, inl, inr}
-use mathlib.Core.List.{List, [], _∷_, _++_}
+use mathlib.Core.List.{List}
 use Prim.Native.Nat.{ℕ, zero, suc, _+_, _-_, _<_, _≤_}
 use native.Mathlib.Omega.{arith}
-use lib.ListN.{length, getD, take, drop, take-append-drop, length-take, length-drop}
+use lib.ListN.{length, getD, take, drop, length-drop}
 use lib.Seq.{ext-getD, getD-take, getD-drop, take-add, take-all, length-take-le}
-use Rattle.outcome.specs.Say.{Say, done, refused}
+use Rattle.outcome.specs.Say.{Say, never}
 use Rattle.outcome.specs.Bytes.{Bytes, bytes-take, bytes-drop}
 use Rattle.outcome.specs.First.{lt-or-le}
 use Rattle.edc.specs.Edc.{Divisible, edc}
 use Rattle.edc.specs.Laws.{edc-only}
 use Rattle.rspc.specs.Parity.{p-one}
-use Rattle.sector.specs.Layout.{sync, bytesFrom, timeOf, modeOf, userLength, userData, zeros}
-use Rattle.sector.specs.Correct.{Head, Protected, Correct, CorrectMode01}
+use Rattle.sector.specs.Layout.{bytesFrom, timeOf, modeOf, userLength, userData}
+use Rattle.sector.specs.Correct.{Head, Protected, CorrectMode01}
 use Rattle.sector.specs.Whole.{covered-one}
 use Rattle.address.specs.declared.HeaderTime.{HeaderTime}
-use Rattle.writer.specs.Write.{Asked, says, Writes, refuses, writes}
+use Rattle.writer.specs.Write.{Asked, Writes, refuses, writes}
 
 module _ {mode : ℕ} {time : HeaderTime} {user s t : List ℕ} (a : Asked mode time user s) (b : Asked mode time user t) where
   same-mode : modeOf s ≡ modeOf t
@@ -139,9 +139,6 @@ module _ {mode : ℕ} {time : HeaderTime} {user s t : List ℕ} (a : Asked mode 
           at (inl m) n = given i m
           at (inr m) (inl n) = from-list 2064 4 i same-edc m (omega arith)
           at (inr m) (inr n) = from-list 2068 8 i (ps .intermediate ∙ sym (pt .intermediate)) n (omega arith)
-
-never : {n : ℕ} {u v : List ℕ} {A : Type 0} → refused n u ≡ done v → A
-never e = let z : _≡_ {A = ℕ} 0 1 = cc in absurd (omega arith)
 
 -- only one Sector is asked for
 pub asked-one : {mode : ℕ} {time : HeaderTime} {user s t : List ℕ} → Asked mode time user s → Asked mode time user t → s ≡ t

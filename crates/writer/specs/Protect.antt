@@ -1,23 +1,22 @@
 -- Mode 01: EDC over bytes 0 to 2,063 (14.3), and P and Q parity, put into a Sector that is laid out (clause 14).
 -- Assumes nothing.
-use mathlib.Core.Path.{_≡_, refl, sym, ap, ap₂, _∙_, subst}
+use mathlib.Core.Path.{_≡_, refl, sym, ap, _∙_, subst}
 use mathlib.Core.Bool.{true}
-use mathlib.Core.List.{List, [], _∷_, _++_}
-use Prim.Native.Nat.{ℕ, zero, suc, _+_, _-_, _<_, _≤_}
+use mathlib.Core.List.{List, _∷_, _++_}
+use Prim.Native.Nat.{ℕ, zero, suc, _+_, _-_, _≤_}
 use native.Mathlib.Omega.{arith}
-use lib.ListN.{length, take, drop, length-append, length-take, length-drop}
+use lib.ListN.{length, take, drop, length-append, length-drop}
 use lib.Seq.{take-take, take-at, drop-at, take-append-add, drop-append-add, length-take-le}
 use Rattle.outcome.specs.Bytes.{Bytes}
 use Rattle.codeword.specs.Code.{Codeword}
 use Rattle.edc.specs.Edc.{Divisible, edc}
 use Rattle.edc.specs.Laws.{edc-right, length-edc}
-use Rattle.rspc.specs.Words.{pWord}
 use Rattle.rspc.specs.Cover.{SameCovered, p-same}
 use Rattle.rspc.specs.Place.{same-front}
 use Rattle.rspc.specs.Put.{PPut, QPut}
 use Rattle.address.specs.Address.{inRange}
 use Rattle.address.specs.declared.HeaderTime.{HeaderTime}
-use Rattle.sector.specs.Layout.{bytesFrom, userLength, zeros, drop-zeros}
+use Rattle.sector.specs.Layout.{bytesFrom, zeros, drop-zeros}
 use Rattle.sector.specs.Correct.{Protected}
 use Rattle.writer.specs.Write.{Asked}
 use Rattle.writer.specs.Laid.{front, laid, drop-take, length-front, length-laid, asked-protected}

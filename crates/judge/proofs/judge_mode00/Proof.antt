@@ -1,6 +1,6 @@
 -- `judge::judge_mode00` meets its contract: each way out has the test that `judgingMode00` asks.
 -- Assumes nothing.
-use mathlib.Core.Path.{_≡_, refl, sym, ap, _∙_}
+use mathlib.Core.Path.{sym, ap, _∙_}
 use borrow.Author.Needs.{needs}
 use borrow.Author.Tests.{not-true, not-false}
 use Rattle.judge.specs.Judging.{passing, judgingMode00}

@@ -1,6 +1,6 @@
 -- `judge::place_of` meets its contract: each arm is a case of `placeOf`, and those of Q are the two cases of `qNumber`.
 -- Assumes nothing.
-use mathlib.Core.Path.{_≡_, sym, ap}
+use mathlib.Core.Path.{sym, ap}
 use Prim.Native.Nat.{_/_}
 use borrow.Author.Needs.{needs}
 use Rattle.rspc.specs.Words.{place}

@@ -1,7 +1,5 @@
 -- `repair::unlike` meets its contract: the two arms are the two cases of the test.
 -- Assumes nothing.
-use mathlib.Core.Path.{refl}
-use borrow.Author.Needs.{needs}
 use borrow.Author.Tests.{eq-eqb, ne-eqb}
 use Rattle.repair.proofs.unlike.Statement.{statement}
 use Rattle.repair.proofs.unlike.Tie as tie

@@ -1,7 +1,7 @@
 -- `reporting::turns` meets its contract: after so many turns at most that many Sectors are counted, and the counts add up (`Run`).
 -- Assumes nothing.
-use mathlib.Core.Path.{_≡_, sym, subst}
-use Prim.Native.Nat.{ℕ, _≤_, _-_}
+use mathlib.Core.Path.{sym, subst}
+use Prim.Native.Nat.{_≤_, _-_}
 use native.Mathlib.Omega.{arith}
 use borrow.Author.Needs.{needs}
 use Rattle.text.specs.Counting.{largest}

@@ -1,6 +1,6 @@
 -- `sector::filler_right` meets its contract: bytes that are too few are not the field, and else the two lists are compared.
 -- Assumes nothing.
-use mathlib.Core.Path.{_≡_, sym, ap, _∙_}
+use mathlib.Core.Path.{sym, ap, _∙_}
 use mathlib.Core.List.{List}
 use Prim.Native.Nat.{ℕ, _-_}
 use native.Mathlib.Omega.{arith}

@@ -1,10 +1,10 @@
 -- `sector::sync_right` meets its contract: bytes that are too few are not the field, and else the two lists are compared.
 -- Assumes nothing.
-use mathlib.Core.Path.{_≡_, sym, ap, _∙_}
+use mathlib.Core.Path.{sym}
 use native.Mathlib.Omega.{arith}
 use borrow.Author.Needs.{needs}
 use lib.Seq.{length-take-le}
-use lib.ListN.{length, take, drop, length-take, length-drop}
+use lib.ListN.{take, length-take}
 use Rattle.sector.specs.Layout.{sync}
 use Rattle.sector.specs.Same.{same, same-is, same-lengths}
 use Rattle.sector.proofs.sync_right.Statement.{statement}

@@ -1,7 +1,5 @@
 -- `writer::user_length` meets its contract: the three ways out are the cases of `userLength`.
 -- Assumes nothing.
-use mathlib.Core.Path.{refl}
-use borrow.Author.Needs.{needs}
 use borrow.Author.Tests.{eq-eqb, ne-eqb}
 use Rattle.writer.proofs.user_length.Statement.{statement}
 use Rattle.writer.proofs.user_length.Tie as tie

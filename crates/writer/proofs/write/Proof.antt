@@ -1,6 +1,6 @@
 -- `writer::write` meets its contract: each way out is a law of `Ways`.
 -- Assumes nothing.
-use mathlib.Core.Path.{_≡_, sym, ap, _∙_}
+use mathlib.Core.Path.{sym, _∙_}
 use borrow.Author.Needs.{needs}
 use borrow.Author.Tests.{not-false}
 use Rattle.writer.proofs.Ways.{on-outgoing, on-mode, on-incoming, on-address, on-done}
