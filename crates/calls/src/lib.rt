@@ -1,0 +1,1 @@
+// Calls of something that carries a state, one after the other: definitions and laws only.
