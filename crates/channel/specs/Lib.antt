@@ -8,7 +8,3 @@ pub mod Writes
 pub mod Going
 pub mod State
 pub mod WriteSay
-pub mod Reading
-pub mod Reads
-pub mod Frames
-pub mod ReadSay

@@ -1,4 +1,4 @@
--- A step of a writer or a reader: what it says, the state that it hands back, and what the outgoing buffer then holds.
+-- A step of a CIRC writer or reader that takes a frame and gives a frame: refusals 1 and 2, and its three ways.
 -- Assumes nothing.
 use Prim.Native.Nat.{ℕ}
 use mathlib.Core.Path.{_≡_, sym, ap}
@@ -6,24 +6,8 @@ use mathlib.Core.List.{List, []}
 use lib.Dec.{eqb}
 use lib.ListN.{length}
 use borrow.Author.Tests.{eq-eqb, ne-eqb}
-use Rattle.outcome.specs.Say.{Say, done, refused, demand, cleared, leaves, cleared-wrong}
-
-pub record Step : Type 0 where
-  pub say : Say
-  pub next : List ℕ
-  pub out : List ℕ
-
-abbrev pub step : Say → List ℕ → List ℕ → Step
-step say next out = record { say = say; next = next; out = out }
-
--- the state that is handed back: the new one if the step is done, and after a refusal the state as it was
-abbrev pub handedBack : Say → List ℕ → List ℕ → List ℕ
-handedBack (done vs) new old = new
-handedBack (refused n vs) new old = old
-
--- a step whose answer is `say`, with the right length of its buffer
-abbrev pub stepOf : Say → ℕ → List ℕ → List ℕ → List ℕ → List ℕ → Step
-stepOf say right new next s old = step say (handedBack say next s) (leaves say right new old)
+use Rattle.outcome.specs.Say.{Say, done, refused, demand, cleared, cleared-wrong}
+use Rattle.calls.specs.Step.{Step, step, stepOf}
 
 -- what a step says to a frame and a buffer: refusals 1 and 2 in this order
 abbrev pub answerTo : ℕ → ℕ → List ℕ → List ℕ → List ℕ → Say
@@ -32,7 +16,7 @@ answerTo incoming outgoing frame old values = demand (eqb (length frame) incomin
 -- ---- its three ways
 
 module _ (incoming outgoing : ℕ) (values new next s frame old : List ℕ) where
-  abbrev pub stepped : Step
+  abbrev pub stepped : Step (List ℕ)
   stepped = stepOf (answerTo incoming outgoing frame old values) outgoing new next s old
 
   pub wrong-incoming : (length frame ≡ incoming → ⊥) → (after : List ℕ) → after ≡ cleared outgoing old → step (refused 1 []) s after ≡ stepped

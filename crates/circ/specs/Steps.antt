@@ -7,26 +7,27 @@ use mathlib.Core.List.{List, [], _∷_}
 use Rattle.circ.specs.Chains.{writerOut, writerNext, readerOut, readerDoubt, readerNext}
 use Rattle.circ.specs.Codes.{qOf, pOf, corrected, lost}
 use Rattle.circ.specs.Answers.{writerSay, readerSay, writer-says-one, reader-says-one}
-use Rattle.circ.specs.Step.{Step, step, stepped}
+use Rattle.calls.specs.Step.{Step, step}
+use Rattle.circ.specs.Step.{stepped}
 use Rattle.circ.specs.declared.WriterAnswer.{WriterAnswer}
 use Rattle.circ.specs.declared.ReaderAnswer.{ReaderAnswer}
 
 -- 24 bytes in, 32 out
-abbrev pub writes : List ℕ → List ℕ → List ℕ → Step
+abbrev pub writes : List ℕ → List ℕ → List ℕ → Step (List ℕ)
 writes s frame out = stepped 24 32 [] (writerOut qOf pOf s frame) (writerNext qOf pOf s frame) s frame out
 
 -- 32 bytes in, 24 out, with a doubt mark
-abbrev pub reads : List ℕ → List ℕ → List ℕ → Step
+abbrev pub reads : List ℕ → List ℕ → List ℕ → Step (List ℕ)
 reads s frame out =
     stepped 32 24 (readerDoubt corrected corrected lost s frame ∷ []) (readerOut corrected corrected lost s frame) (readerNext corrected corrected lost s frame) s frame out
 
 -- ---- two outcomes that a promise allows are one
 
-same-step : {a b c : Step} → a ≡ c → b ≡ c → (a .say ≡ b .say) × (a .next ≡ b .next) × (a .out ≡ b .out)
-same-step p q = let e = p ∙ sym q in (ap (λ (t : Step). t .say) e, ap (λ (t : Step). t .next) e, ap (λ (t : Step). t .out) e)
+same-step : {a b c : Step (List ℕ)} → a ≡ c → b ≡ c → (a .say ≡ b .say) × (a .next ≡ b .next) × (a .out ≡ b .out)
+same-step p q = let e = p ∙ sym q in (ap (λ (t : Step (List ℕ)). t .say) e, ap (λ (t : Step (List ℕ)). t .next) e, ap (λ (t : Step (List ℕ)). t .out) e)
 
-pub writer-once : (w : Step) (a b : WriterAnswer) (s t o u : List ℕ) → step (writerSay a) s o ≡ w → step (writerSay b) t u ≡ w → (a ≡ b) × (s ≡ t) × (o ≡ u)
+pub writer-once : (w : Step (List ℕ)) (a b : WriterAnswer) (s t o u : List ℕ) → step (writerSay a) s o ≡ w → step (writerSay b) t u ≡ w → (a ≡ b) × (s ≡ t) × (o ≡ u)
 writer-once w a b s t o u p q = let e = same-step p q in (writer-says-one a b (e .0), e .1, e .2)
 
-pub reader-once : (w : Step) (a b : ReaderAnswer) (s t o u : List ℕ) → step (readerSay a) s o ≡ w → step (readerSay b) t u ≡ w → (a ≡ b) × (s ≡ t) × (o ≡ u)
+pub reader-once : (w : Step (List ℕ)) (a b : ReaderAnswer) (s t o u : List ℕ) → step (readerSay a) s o ≡ w → step (readerSay b) t u ≡ w → (a ≡ b) × (s ≡ t) × (o ≡ u)
 reader-once w a b s t o u p q = let e = same-step p q in (reader-says-one a b (e .0), e .1, e .2)

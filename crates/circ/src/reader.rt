@@ -8,7 +8,7 @@ ghost use Rattle.circ.specs.Rows.{collected, doubt};
 ghost use Rattle.circ.specs.Chains.{throughC1, throughC2};
 ghost use Rattle.circ.specs.Codes.{corrected, lost};
 ghost use Rattle.circ.specs.Answers.{readerSay};
-ghost use Rattle.circ.specs.Step.{step};
+ghost use Rattle.calls.specs.Step.{step};
 ghost use Rattle.circ.specs.Steps.{reads};
 ghost use Rattle.circ.specs.Reading.{ReaderGone};
 use crate::CircReader;

@@ -5,7 +5,7 @@ ghost use Rattle.circ.specs.Rows.{placed};
 ghost use Rattle.circ.specs.Chains.{withQ, withP, writerOut, writerNext};
 ghost use Rattle.circ.specs.Codes.{qOf, pOf};
 ghost use Rattle.circ.specs.Answers.{writerSay};
-ghost use Rattle.circ.specs.Step.{step};
+ghost use Rattle.calls.specs.Step.{step};
 ghost use Rattle.circ.specs.Steps.{writes};
 use crate::CircWriter;
 use crate::WriterAnswer;

@@ -7,7 +7,7 @@ use native.Mathlib.Omega.{arith}
 use lib.ListN.{length, getD, take, drop, length-drop, take-append-drop}
 use borrow.Rule.Slice.PartMut.{putMid}
 use Rattle.outcome.specs.Part.{part-back}
-use Rattle.circ.specs.Step.{Step}
+use Rattle.calls.specs.Step.{Step}
 use Rattle.road.specs.Coded.{coded, lowBytes}
 use Rattle.road.specs.Runs.{Run, run, before, first, runs}
 use Rattle.road.proofs.Lent.{lent-part, lent-rest, lent-from, lent-in, drop-two, take-replaced, drop-replaced, length-replaced}
@@ -16,7 +16,7 @@ use Rattle.road.proofs.Lent.{lent-part, lent-rest, lent-from, lent-in, 
 before-before : (a b c d : List ℕ) (r : Run) → before a b (before c d r) ≡ before (a ++ c) (b ++ d) r
 before-before a b c d r = ap₂ run (sym (append-assoc a c (r .answers))) (sym (append-assoc b d (r .out)))
 
-module _ (step : List ℕ → List ℕ → List ℕ → Step) where
+module _ (step : List ℕ → List ℕ → List ℕ → Step (List ℕ)) where
   pub record Running (state₀ incoming lengths out₀ state : List ℕ) (k from to : ℕ) (answers out : List ℕ) : Type 0 where
     pub all : runs step state₀ incoming lengths out₀ ≡ before (take k answers) (take to out) (runs step state (drop from incoming) (drop k answers) (drop to out))
     pub as-many : length answers ≡ length lengths

@@ -5,7 +5,7 @@
 use mathlib.Core.List.{List, [], _∷_, _++_}
 use Prim.Native.Nat.{ℕ}
 use lib.ListN.{take, drop}
-use Rattle.circ.specs.Step.{Step}
+use Rattle.calls.specs.Step.{Step}
 use Rattle.road.specs.Coded.{coded, lowBytes}
 
 -- what a run leaves: the answers, and the outgoing buffer
@@ -21,11 +21,11 @@ abbrev pub before : List ℕ → List ℕ → Run → Run
 before answers out rest = run (answers ++ rest .answers) (out ++ rest .out)
 
 -- a step, and the run behind it
-abbrev pub first : Step → Run → Run
+abbrev pub first : Step (List ℕ) → Run → Run
 first s rest = before (lowBytes 2 (coded (s .say))) (s .out) rest
 
 -- the run of a step from a state on, over the bytes that come in, the lengths of each step, and what the outgoing buffer held
-unfoldable pub runs : (List ℕ → List ℕ → List ℕ → Step) → List ℕ → List ℕ → List ℕ → List ℕ → Run
+unfoldable pub runs : (List ℕ → List ℕ → List ℕ → Step (List ℕ)) → List ℕ → List ℕ → List ℕ → List ℕ → Run
 runs step state incoming [] out = run [] out
 runs step state incoming (i ∷ []) out = run (i ∷ []) out
 runs step state incoming (i ∷ o ∷ lengths) out =

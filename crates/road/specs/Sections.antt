@@ -7,11 +7,11 @@ use Prim.Native.Nat.{ℕ}
 use lib.IntN.{ℤ}
 use Rattle.outcome.specs.Say.{Say}
 use Rattle.channel.specs.declared.SectionWriter.{SectionWriter}
-use Rattle.channel.specs.WriteSay.{Stepped, stepped}
-use Rattle.channel.specs.ReadSay.{ReadOut, readOut}
+use Rattle.calls.specs.Step.{Step, step}
+use Rattle.section_reader.specs.ReadSay.{ReadOut, readOut}
 use Rattle.road.specs.Coded.{coded}
 
-pub record WriteTold (s : Stepped) (number : ℕ) (dsv level : ℤ) (sections : ℕ) (out : List ℕ) : Type 0 where
+pub record WriteTold (s : Step SectionWriter) (number : ℕ) (dsv level : ℤ) (sections : ℕ) (out : List ℕ) : Type 0 where
   pub says : number ≡ coded (s .say)
   pub has-dsv : dsv ≡ s .next .dsv
   pub has-level : level ≡ s .next .level
@@ -25,15 +25,15 @@ pub record ReadTold (r : ReadOut) (number : ℕ) (bytes marks : List ℕ) : Type
 
 -- ---- from an entry's own promise
 
-pub write-tells : (s : Stepped) (say : Say) (next : SectionWriter) (out : List ℕ) (number : ℕ) → stepped say next out ≡ s → number ≡ coded say
+pub write-tells : (s : Step SectionWriter) (say : Say) (next : SectionWriter) (out : List ℕ) (number : ℕ) → step say next out ≡ s → number ≡ coded say
     → WriteTold s number (next .dsv) (next .level) (next .sections) out
 write-tells s say next out number p q =
     record {
-      says = q ∙ ap (λ (x : Stepped). coded (x .say)) p;
-      has-dsv = ap (λ (x : Stepped). x .next .dsv) p;
-      has-level = ap (λ (x : Stepped). x .next .level) p;
-      has-sections = ap (λ (x : Stepped). x .next .sections) p;
-      holds = ap (λ (x : Stepped). x .out) p;
+      says = q ∙ ap (λ (x : Step SectionWriter). coded (x .say)) p;
+      has-dsv = ap (λ (x : Step SectionWriter). x .next .dsv) p;
+      has-level = ap (λ (x : Step SectionWriter). x .next .level) p;
+      has-sections = ap (λ (x : Step SectionWriter). x .next .sections) p;
+      holds = ap (λ (x : Step SectionWriter). x .out) p;
     }
 
 pub read-tells : (r : ReadOut) (say : Say) (bytes marks : List ℕ) (number : ℕ) → readOut say bytes marks ≡ r → number ≡ coded say → ReadTold r number bytes marks

@@ -1,9 +1,9 @@
 // Reading a Section.
 ghost use mathlib.Core.Path.{_≡_};
-ghost use Rattle.channel.specs.ReadSay.{sayRead, sectionRead};
+ghost use Rattle.section_reader.specs.ReadSay.{sayRead, sectionRead};
 ghost use Rattle.road.specs.Coded.{coded};
 ghost use Rattle.road.specs.Sections.{ReadTold};
-use channel::SectionRead;
+use section_reader::SectionRead;
 
 // With refusal 8 comes the number of a frame.
 fn code(a: SectionRead) -> u64
@@ -21,5 +21,5 @@ fn code(a: SectionRead) -> u64
 pub extern "C" fn road_read_section(channel: &[u8], bytes: &mut [u8], marks: &mut [u8]) -> u64
     ensures { λ r. ⌜ ReadTold (sectionRead (now (channel .entry)) (now (bytes .entry)) (now (marks .entry))) r (now (bytes .exit)) (now (marks .exit)) ⌝ }
 {
-    code(channel::read_section(channel, bytes, marks))
+    code(section_reader::read_section(channel, bytes, marks))
 }

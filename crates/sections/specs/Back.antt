@@ -21,7 +21,7 @@ use Rattle.merging.specs.Agree.{word-keeps}
 use Rattle.merging.specs.Chosen.{Written, dsvAfter, beforeWord, withWord, withHeader, withTail}
 use Rattle.merging.specs.Rule.{allowed}
 use Rattle.channel.specs.declared.SectionWriter.{SectionWriter}
-use Rattle.channel.specs.Reading.{fieldAt, headless, firstHeadless, wordRead}
+use Rattle.section_reader.specs.Reading.{fieldAt, headless, firstHeadless, wordRead}
 use Rattle.channel.specs.Section.{wordAt, frameWords, withWords, withFrame, withFrames, sectionAfter}
 use Rattle.channel.specs.State.{above, below, levelNow}
 use Rattle.channel.specs.WriteSay.{section}

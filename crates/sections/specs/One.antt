@@ -1,11 +1,11 @@
 -- An answer is told by what it says: so two outcomes of a write, or of a reading, that the promise allows are the same.
 -- Assumes nothing.
 use mathlib.Core.Path.{_≡_, refl}
-use Rattle.channel.specs.declared.SectionRead.{SectionRead}
-use Rattle.channel.specs.declared.SectionRead.the-variants as reads
+use Rattle.section_reader.specs.declared.SectionRead.{SectionRead}
+use Rattle.section_reader.specs.declared.SectionRead.the-variants as reads
 use Rattle.channel.specs.declared.SectionWritten.{SectionWritten}
 use Rattle.channel.specs.declared.SectionWritten.the-variants as writes
-use Rattle.channel.specs.ReadSay.{sayRead}
+use Rattle.section_reader.specs.ReadSay.{sayRead}
 use Rattle.channel.specs.WriteSay.{sayWritten}
 
 pub written-one : (a b : SectionWritten) → sayWritten a ≡ sayWritten b → a ≡ b

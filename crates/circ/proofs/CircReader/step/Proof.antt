@@ -5,7 +5,8 @@ use Rattle.outcome.specs.Say.{Say}
 use Rattle.circ.specs.declared.ReaderAnswer.{ReaderAnswer}
 use Rattle.circ.specs.declared.CircReader.{CircReader}
 use Rattle.circ.specs.Answers.{readerSay}
-use Rattle.circ.specs.Step.{step, wrong-incoming, wrong-outgoing, right}
+use Rattle.calls.specs.Step.{step}
+use Rattle.circ.specs.Step.{wrong-incoming, wrong-outgoing, right}
 use borrow.Author.Needs.{needs}
 use Rattle.circ.proofs.CircReader.step.Statement.{statement}
 use Rattle.circ.proofs.CircReader.step.Tie as tie

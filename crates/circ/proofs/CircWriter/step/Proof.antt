@@ -5,7 +5,8 @@ use mathlib.Core.List.{[]}
 use Rattle.circ.specs.declared.WriterAnswer.{WriterAnswer}
 use Rattle.circ.specs.declared.CircWriter.{CircWriter}
 use Rattle.circ.specs.Answers.{writerSay}
-use Rattle.circ.specs.Step.{step, wrong-incoming, wrong-outgoing, right}
+use Rattle.calls.specs.Step.{step}
+use Rattle.circ.specs.Step.{wrong-incoming, wrong-outgoing, right}
 use borrow.Author.Needs.{needs}
 use Rattle.circ.proofs.CircWriter.step.Statement.{statement}
 use Rattle.circ.proofs.CircWriter.step.Tie as tie

@@ -2,7 +2,9 @@
 -- Assumes nothing.
 use borrow.Author.Needs.{needs}
 use mathlib.Core.Path.{ap, _∙_}
-use Rattle.circ.specs.Step.{Step}
+use mathlib.Core.List.{List}
+use Prim.Native.Nat.{ℕ}
+use Rattle.calls.specs.Step.{Step}
 use Rattle.road.specs.Coded.{coded, lowBytes}
 use Rattle.road.proofs.circ_reading.read.Statement.{statement}
 use Rattle.road.proofs.circ_reading.read.Tie as tie
@@ -27,9 +29,9 @@ returns c =
     let put = c .before .before .before in
     let coding = put .before .before in
     let stepped = coding .before .before .before .step .ensures in (
-      ap (λ (s : Step). s .next) stepped,
-      put .put-answer .ensures ∙ ap (lowBytes 2) (coding .code .ensures ∙ ap (λ (s : Step). coded (s .say)) stepped),
-      ap (λ (s : Step). s .out) stepped,
+      ap (λ (s : Step (List ℕ)). s .next) stepped,
+      put .put-answer .ensures ∙ ap (lowBytes 2) (coding .code .ensures ∙ ap (λ (s : Step (List ℕ)). coded (s .say)) stepped),
+      ap (λ (s : Step (List ℕ)). s .out) stepped,
     )
 
 pub read-spec : {M : Type 1} → statement M

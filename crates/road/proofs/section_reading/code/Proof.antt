@@ -6,8 +6,8 @@ use mathlib.Core.List.{[], _∷_}
 use native.Mathlib.Omega.{arith}
 use Prim.Native.Nat.{ℕ, _+_, _*_, _%_}
 use Rattle.outcome.specs.Say.{refused}
-use Rattle.channel.specs.ReadSay.{sayRead}
-use Rattle.channel.specs.declared.SectionRead.{SectionRead}
+use Rattle.section_reader.specs.ReadSay.{sayRead}
+use Rattle.section_reader.specs.declared.SectionRead.{SectionRead}
 use Rattle.road.specs.Coded.{coded}
 use Rattle.road.proofs.section_reading.code.Statement.{statement}
 use Rattle.road.proofs.section_reading.code.Tie as tie

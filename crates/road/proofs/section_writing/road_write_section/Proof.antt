@@ -7,15 +7,16 @@ use Prim.Native.Nat.{ℕ}
 use lib.IntN.{ℤ}
 use Rattle.outcome.specs.Say.{Say}
 use Rattle.channel.specs.declared.SectionWriter.{SectionWriter}
-use Rattle.channel.specs.WriteSay.{Stepped, stepped, written}
+use Rattle.calls.specs.Step.{Step, step}
+use Rattle.channel.specs.WriteSay.{written}
 use Rattle.road.specs.Coded.{coded}
 use Rattle.road.specs.Sections.{WriteTold, write-tells}
 use Rattle.road.proofs.section_writing.road_write_section.Statement.{statement}
 use Rattle.road.proofs.section_writing.road_write_section.Tie as tie
 
 -- a signed number that was stored and read again is that number
-told : (state : SectionWriter → Stepped) (dsv dsv′ level level′ : ℤ) (sections : ℕ) (say : Say) (next : SectionWriter) (out : List ℕ) (number : ℕ) (next-dsv next-level : ℤ)
-    → dsv′ ≡ dsv → level′ ≡ level → stepped say next out ≡ state (record { dsv = dsv′; level = level′; sections = sections }) → number ≡ coded say
+told : (state : SectionWriter → Step SectionWriter) (dsv dsv′ level level′ : ℤ) (sections : ℕ) (say : Say) (next : SectionWriter) (out : List ℕ) (number : ℕ) (next-dsv next-level : ℤ)
+    → dsv′ ≡ dsv → level′ ≡ level → step say next out ≡ state (record { dsv = dsv′; level = level′; sections = sections }) → number ≡ coded say
     → next-dsv ≡ next .dsv → next-level ≡ next .level
     → WriteTold (state (record { dsv = dsv; level = level; sections = sections })) number next-dsv next-level (next .sections) out
 told state dsv dsv′ level level′ sections say next out number next-dsv next-level d l p q nd nl =

@@ -16,7 +16,7 @@ use Rattle.outcome.specs.Table.{tabulated-at, length-tabulated}
 use Rattle.bits.specs.Bits.{number, unpack}
 use Rattle.bits.specs.Packed.{three, from-three}
 use Rattle.words.specs.Words.{byteOf}
-use Rattle.channel.specs.Reading.{fieldAt, headless, wordRead, byteFor, markFor, byteRead, markRead, bytesRead, marksRead}
+use Rattle.section_reader.specs.Reading.{fieldAt, headless, wordRead, byteFor, markFor, byteRead, markRead, bytesRead, marksRead}
 
 -- ---- a field
 

@@ -8,8 +8,8 @@ use Rattle.words.specs.Facts.{looked-up}
 use Rattle.words.specs.LookUp.{lookedUp}
 use Rattle.words.specs.Words.{byteOf}
 use borrow.Author.Needs.{needs}
-use Rattle.channel.proofs.reader.read_word.Statement.{statement}
-use Rattle.channel.proofs.reader.read_word.Tie as tie
+use Rattle.section_reader.proofs.reader.read_word.Statement.{statement}
+use Rattle.section_reader.proofs.reader.read_word.Tie as tie
 
 look-up-requires : tie.Need-look-up-requires
 look-up-requires c κs = search needs

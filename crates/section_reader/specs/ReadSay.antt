@@ -10,10 +10,10 @@ use borrow.Author.Tests.{eq-eqb, ne-eqb, lt-ltb, le-ltb}
 use Rattle.outcome.specs.First.{found-first}
 use Rattle.outcome.specs.Say.{Say, done, refused, demand, cleared, leaves, cleared-right, cleared-wrong}
 use Rattle.bits.specs.Bits.{unpack}
-use Rattle.channel.specs.declared.SectionRead.{SectionRead}
-use Rattle.channel.specs.declared.SectionRead.the-variants.{Done, WrongIncoming, WrongOutgoing, NoHeader}
-use Rattle.channel.specs.Reading.{headless, firstHeadless, bytesRead, marksRead}
-use Rattle.channel.specs.Frames.{FramesRead}
+use Rattle.section_reader.specs.declared.SectionRead.{SectionRead}
+use Rattle.section_reader.specs.declared.SectionRead.the-variants.{Done, WrongIncoming, WrongOutgoing, NoHeader}
+use Rattle.section_reader.specs.Reading.{headless, firstHeadless, bytesRead, marksRead}
+use Rattle.section_reader.specs.Frames.{FramesRead}
 
 -- document 01's number and values for each answer
 abbrev pub sayRead : SectionRead → Say

@@ -6,10 +6,10 @@ use Prim.Native.Nat.{ℕ, _+_, _-_, _*_, _≤_, _<_}
 use native.Mathlib.Omega.{arith}
 use borrow.Author.Needs.{needs}
 use Rattle.bits.specs.Bits.{unpack}
-use Rattle.channel.specs.Reads.{has-header, no-first-half, no-second-half}
-use Rattle.channel.specs.Frames.{Both, both-long, both-start, both-more, missed, header-room, frame-took}
-use Rattle.channel.proofs.reader.read_frame.Statement.{statement}
-use Rattle.channel.proofs.reader.read_frame.Tie as tie
+use Rattle.section_reader.specs.Reads.{has-header, no-first-half, no-second-half}
+use Rattle.section_reader.specs.Frames.{Both, both-long, both-start, both-more, missed, header-room, frame-took}
+use Rattle.section_reader.proofs.reader.read_frame.Statement.{statement}
+use Rattle.section_reader.proofs.reader.read_frame.Tie as tie
 
 abbrev Inv-loop : tie.InvT-loop
 Inv-loop channel table guide f bytes₀ marks₀ at second i₀ bytes marks i = (i ≤ 33) × Both (unpack channel) (33 * f + i) bytes marks

@@ -5,9 +5,9 @@ use mathlib.Core.Path.{sym, _∙_}
 use Prim.Native.Nat.{_-_}
 use native.Mathlib.Omega.{arith}
 use borrow.Author.Needs.{needs}
-use Rattle.channel.specs.Frames.{on-read, on-missed, both-long, Going, going-none, going-more, going-missed, going-all}
-use Rattle.channel.proofs.reader.read_frames.Statement.{statement}
-use Rattle.channel.proofs.reader.read_frames.Tie as tie
+use Rattle.section_reader.specs.Frames.{on-read, on-missed, both-long, Going, going-none, going-more, going-missed, going-all}
+use Rattle.section_reader.proofs.reader.read_frames.Statement.{statement}
+use Rattle.section_reader.proofs.reader.read_frames.Tie as tie
 
 abbrev Inv-loop : tie.InvT-loop
 Inv-loop channel bytes₀ marks₀ table guide f₀ bytes marks f = Going channel bytes marks f

@@ -7,8 +7,8 @@ ghost use lib.ListN.{length};
 ghost use Rattle.bits.specs.Bits.{unpack};
 ghost use Rattle.words.specs.Words.{words, byteOf, sync0, sync1};
 ghost use Rattle.words.specs.LookUp.{Guide};
-ghost use Rattle.channel.specs.Reading.{fieldAt, byteFor, markFor};
-ghost use Rattle.channel.specs.Frames.{FrameWanted, FrameRead, FramesRead};
+ghost use Rattle.section_reader.specs.Reading.{fieldAt, byteFor, markFor};
+ghost use Rattle.section_reader.specs.Frames.{FrameWanted, FrameRead, FramesRead};
 use words::Symbol;
 
 // What a frame reader finds: a frame, with the number of the next one; or no Sync Header.

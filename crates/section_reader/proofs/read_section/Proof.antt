@@ -1,9 +1,9 @@
 -- `channel::read_section` meets its contract: each way out is a law of `ReadSay`.
 -- Assumes nothing.
-use Rattle.channel.specs.ReadSay.{wrong-channel, wrong-bytes, wrong-marks, no-header, all-read}
+use Rattle.section_reader.specs.ReadSay.{wrong-channel, wrong-bytes, wrong-marks, no-header, all-read}
 use borrow.Author.Needs.{needs}
-use Rattle.channel.proofs.read_section.Statement.{statement}
-use Rattle.channel.proofs.read_section.Tie as tie
+use Rattle.section_reader.proofs.read_section.Statement.{statement}
+use Rattle.section_reader.proofs.read_section.Tie as tie
 
 wipe-requires : tie.Need-wipe-requires
 wipe-requires c κs = search needs

@@ -1,8 +1,8 @@
 -- `channel::reader::unknown_mark` meets its contract, by its tests.
 -- Assumes nothing.
 use borrow.Author.Tests.{eq-eqb, ne-eqb}
-use Rattle.channel.proofs.reader.unknown_mark.Statement.{statement}
-use Rattle.channel.proofs.reader.unknown_mark.Tie as tie
+use Rattle.section_reader.proofs.reader.unknown_mark.Statement.{statement}
+use Rattle.section_reader.proofs.reader.unknown_mark.Tie as tie
 
 returns : tie.Need-returns
 returns c = simp (eq-eqb _ _ (c .before .if1 .taken), eq-eqb _ _ (c .if2 .taken))

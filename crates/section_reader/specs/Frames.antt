@@ -13,10 +13,10 @@ use Rattle.bits.specs.Bits.{unpack}
 use Rattle.bits.specs.Packed.{length-unpack}
 use Rattle.words.specs.LookUp.{Guide}
 use Rattle.words.specs.Words.{words, byteOf}
-use Rattle.channel.specs.declared.reader.Frame.{Frame}
-use Rattle.channel.specs.declared.reader.Frame.the-variants.{Read, NoHeader}
-use Rattle.channel.specs.Reading.{headless, wordRead, byteFor, markFor, bytesRead, marksRead}
-use Rattle.channel.specs.Reads.{Upto, upto-none, upto-more, upto-all, long-bytes, long-marks, byte-at, mark-at}
+use Rattle.section_reader.specs.declared.reader.Frame.{Frame}
+use Rattle.section_reader.specs.declared.reader.Frame.the-variants.{Read, NoHeader}
+use Rattle.section_reader.specs.Reading.{headless, wordRead, byteFor, markFor, bytesRead, marksRead}
+use Rattle.section_reader.specs.Reads.{Upto, upto-none, upto-more, upto-all, long-bytes, long-marks, byte-at, mark-at}
 
 -- both buffers hold what frames before f say
 pub record Both (bits : List ℕ) (n : ℕ) (bytes marks : List ℕ) : Type 0 where

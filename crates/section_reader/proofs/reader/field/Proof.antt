@@ -5,10 +5,10 @@ use Prim.Native.Nat.{ℕ, _+_, _-_, _/_, _%_, _^_}
 use native.Mathlib.Nat.{mod-lt}
 use native.Mathlib.Omega.{arith}
 use lib.Pow.{pow-pos}
-use Rattle.channel.specs.Reads.{unit-is, field-is}
+use Rattle.section_reader.specs.Reads.{unit-is, field-is}
 use borrow.Author.Needs.{needs}
-use Rattle.channel.proofs.reader.field.Statement.{statement}
-use Rattle.channel.proofs.reader.field.Tie as tie
+use Rattle.section_reader.proofs.reader.field.Statement.{statement}
+use Rattle.section_reader.proofs.reader.field.Tie as tie
 
 cast-j : tie.Need-cast-j
 cast-j c = search needs

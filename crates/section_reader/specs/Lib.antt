@@ -1,0 +1,4 @@
+pub mod Reading
+pub mod Reads
+pub mod Frames
+pub mod ReadSay
