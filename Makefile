@@ -1,5 +1,6 @@
-# `make` proves the crates and builds the programs; `make run` prints a report; `make test` is the gate; `make bench` times the proved code.
-.PHONY: all run test bench
+# `make` proves the crates and builds the programs; `make run` prints a report; `make test` is the gate; `make bench` times the proved code;
+# `make times` says how long each crate takes to prove.
+.PHONY: all run test bench times
 
 # the image whose report `make run` prints
 IMAGE ?= crates/report/stdin
@@ -8,17 +9,16 @@ all:
 	rt check
 
 run:
-	@mkdir -p target
-	@rt check report > target/report.log 2>&1 || { tail -n 40 target/report.log; exit 1; }
+	@tools/prove report
 	@target/bin/report < "$(IMAGE)"
 
 test:
-	rt fmt --check
-	rt staticlib road
-	cd second && cargo test --offline --release --quiet
-	rt ci
+	@tools/gate
 
 bench:
 	rt staticlib road
 	rt check report
 	cd second && cargo run --offline --release --quiet --bin bench
+
+times:
+	@tools/times
