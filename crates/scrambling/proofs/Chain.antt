@@ -8,7 +8,7 @@ use lib.ListN.{length, take}
 use lib.Seq.{getD-take, length-take-le, ext-getD}
 use Rattle.outcome.specs.Table.{tabulated, length-tabulated, tabulated-from}
 use Rattle.scrambling.specs.Sequence.{next, register, bit, byteOf, byteAt, sequence}
-use Rattle.scrambling.specs.Rule.{length-register, register-at}
+use Rattle.scrambling.specs.Sequence.Follows.{length-register, register-at}
 
 -- n bytes, where w has the first one's bits and seven more
 unfoldable pub chain : ℕ → List ℕ → List ℕ

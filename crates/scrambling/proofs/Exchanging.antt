@@ -10,8 +10,10 @@ use lib.Dec.{eqb}
 use lib.ListN.{length, getD, set, take, drop}
 use Rattle.outcome.specs.Fill.{Filling, filling-long, filling-more, filling-part}
 use Rattle.outcome.specs.Part.{part-back}
-use Rattle.scrambling.specs.Exchange.{exchanged, length-exchanged, exchanged-at}
-use Rattle.scrambling.specs.Frames.{frame, length-frame, f1-exchanged, frame-f1}
+use Rattle.scrambling.specs.Exchange.{exchanged}
+use Rattle.scrambling.specs.Exchange.Pairs.{length-exchanged, exchanged-at}
+use Rattle.scrambling.specs.Frames.{frame}
+use Rattle.scrambling.specs.Frames.Placed.{length-frame, f1-exchanged, frame-f1}
 use Rattle.outcome.specs.Lengths.{same-lengths}
 
 pub pair-more : (d s out : List ℕ) (k : ℕ) → Filling d (exchanged s) (2 * k) out → 2 * k + 1 < length s

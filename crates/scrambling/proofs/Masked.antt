@@ -12,7 +12,7 @@ use lib.ListN.{length, take, drop, length-drop}
 use lib.Seq.{take-all}
 use Rattle.outcome.specs.Part.{end-back}
 use Rattle.xor.specs.Lists.{added}
-use Rattle.scrambling.specs.Rule.{length-sequence}
+use Rattle.scrambling.specs.Sequence.Follows.{length-sequence}
 use Rattle.scrambling.specs.Scramble.{scrambled}
 use Rattle.scrambling.specs.Sequence.{sequence}
 use Rattle.outcome.specs.Lengths.{same-lengths}

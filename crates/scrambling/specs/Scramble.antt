@@ -1,19 +1,13 @@
 -- Scrambling (clause 15): bytes 12 to 2,351 of a Sector are scrambled according to Annex B; its Sync is left.
 -- Assumes nothing.
-use mathlib.Core.Path.{_≡_, sym, ap, ap₂, _∙_}
-use mathlib.Core.List.{List, [], _++_}
-use Prim.Native.Nat.{ℕ, _+_, _<_}
-use native.Mathlib.Nat.{le-of-eq}
-use native.Mathlib.Omega.{arith}
-use lib.Bits.{bitXor}
-use lib.ListN.{length, getD, take, drop, take-append-drop, length-append, length-drop}
-use lib.Seq.{length-take-le, take-at, drop-at, getD-drop}
-use Rattle.outcome.specs.Bytes.{Bytes, bytes-append, bytes-take, bytes-drop}
-use Rattle.outcome.specs.Say.{done, Outcome, outcome}
-use Rattle.xor.specs.Lists.{added, length-added, added-at, added-twice, bytes-added}
-use Rattle.scrambling.specs.Entry.{answering, taken-back}
-use Rattle.scrambling.specs.Rule.{length-sequence, sequence-at, bytes-sequence}
-use Rattle.scrambling.specs.Sequence.{byteAt, sequence}
+use mathlib.Core.List.{List, _++_}
+use Prim.Native.Nat.{ℕ, _+_}
+use lib.ListN.{take, drop}
+use Rattle.outcome.specs.Say.{Outcome}
+use Rattle.xor.specs.Lists.{added}
+use Rattle.scrambling.specs.Entry.{answering}
+use Rattle.scrambling.specs.Sequence.{sequence}
+pub mod Twice
 
 -- added modulo 2 to the sequence from byte 12 on
 unfoldable pub scrambled : List ℕ → List ℕ
@@ -22,50 +16,3 @@ scrambled sector = take 12 sector ++ added (drop 12 sector) sequence
 -- what `scramble` answers and leaves, of the Sector and of what the outgoing buffer held
 abbrev pub scrambling : List ℕ → List ℕ → Outcome
 scrambling sector old = answering scrambled sector old
-
--- ---- laws of a Sector s
-
-pub bytes-scrambled : (s : List ℕ) → Bytes s → Bytes (scrambled s)
-unfolding scrambled
-bytes-scrambled s h = bytes-append (take 12 s) (added (drop 12 s) sequence) (bytes-take 12 s h) (bytes-added (drop 12 s) sequence (bytes-drop 12 s h) bytes-sequence)
-
-module _ (s : List ℕ) (whole : length s ≡ 2352) where
-  as-long : length (drop 12 s) ≡ length sequence
-  as-long = omega (arith, length-drop 12 s, length-sequence)
-
-  sync-long : length (take 12 s) ≡ 12
-  sync-long = length-take-le 12 s (omega arith)
-
-  pub length-scrambled : length (scrambled s) ≡ 2352
-  unfolding scrambled
-  length-scrambled =
-      omega (arith, length-append (take 12 s) (added (drop 12 s) sequence), sync-long, length-added (drop 12 s) sequence as-long, length-drop 12 s)
-
-  -- the Sync is left
-  pub sync-left : take 12 (scrambled s) ≡ take 12 s
-  unfolding scrambled
-  sync-left = take-at (take 12 s) (added (drop 12 s) sequence) 12 sync-long
-
-  pub rest-added : drop 12 (scrambled s) ≡ added (drop 12 s) sequence
-  unfolding scrambled
-  rest-added = drop-at (take 12 s) (added (drop 12 s) sequence) 12 sync-long
-
-  pub scrambled-at : (i : ℕ) → i < 2340 → getD (scrambled s) (12 + i) 0 ≡ bitXor (getD s (12 + i) 0) (byteAt i)
-  scrambled-at i h =
-      sym (getD-drop 12 (scrambled s) i 0)
-      ∙ ap (λ (t : List ℕ). getD t i 0) rest-added
-      ∙ added-at (drop 12 s) sequence i (omega (arith, as-long, length-sequence)) (omega (arith, length-sequence))
-      ∙ ap₂ bitXor (getD-drop 12 s i 0) (sequence-at i h)
-
-  -- scrambling twice gives the same bytes
-  pub scrambled-twice : scrambled (scrambled s) ≡ s
-  unfolding scrambled
-  scrambled-twice =
-      ap₂ (λ (a b : List ℕ). a ++ added b sequence) sync-left rest-added
-      ∙ ap (λ (b : List ℕ). take 12 s ++ b) (added-twice (drop 12 s) sequence (le-of-eq as-long))
-      ∙ take-append-drop 12 s
-
--- what `scramble` makes of what it made is the Sector
-pub scrambling-twice : (s a b : List ℕ) → length s ≡ 2352 → length a ≡ 2352 → length b ≡ 2352
-    → scrambling (scrambling s a .out) b ≡ outcome (done []) s
-scrambling-twice s a b = taken-back scrambled scrambled length-scrambled scrambled-twice s a b

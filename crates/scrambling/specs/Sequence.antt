@@ -5,8 +5,9 @@ use mathlib.Core.List.{List, [], _∷_, _++_}
 use Prim.Native.Nat.{ℕ, zero, suc, _+_, _*_, _%_, _≤_}
 use lib.ListN.{getD, drop, replicate}
 use Rattle.outcome.specs.Table.{tabulated}
+pub mod Follows
 
--- the bits f 0, f 1, .. follow the rule; the module `Rule` shows that those of `bit` below do, and no others
+-- the bits f 0, f 1, .. follow the rule; `Sequence.Follows` shows that those of `bit` below do, and no others
 pub record Rule (f : ℕ → ℕ) : Type 0 where
   pub first : f 0 ≡ 1
   pub zeros : (n : ℕ) → 1 ≤ n → n ≤ 14 → f n ≡ 0

@@ -2,9 +2,10 @@
 -- Assumes nothing.
 use mathlib.Core.Path.{sym, _∙_}
 use borrow.Author.Needs.{needs}
-use Rattle.scrambling.specs.Entry.{alike}
+use Rattle.scrambling.specs.Entry.Ways.{alike}
 use Rattle.scrambling.specs.Exchange.{exchanged}
-use Rattle.scrambling.specs.Frames.{cut, f1-exchanged}
+use Rattle.scrambling.specs.Frames.{cut}
+use Rattle.scrambling.specs.Frames.Placed.{f1-exchanged}
 use Rattle.scrambling.proofs.frames.cut.Statement.{statement}
 use Rattle.scrambling.proofs.frames.cut.Tie as tie
 

@@ -1,7 +1,7 @@
 -- `exchange` meets its contract: each way out is a law of `Entry`, whose premises are what the tests and `put_exchanged` said.
 -- Assumes nothing.
 use borrow.Author.Needs.{needs}
-use Rattle.scrambling.specs.Entry.{on-incoming, on-outgoing, on-done}
+use Rattle.scrambling.specs.Entry.Ways.{on-incoming, on-outgoing, on-done}
 use Rattle.scrambling.specs.Exchange.{exchanged}
 use Rattle.scrambling.proofs.frames.exchange.Statement.{statement}
 use Rattle.scrambling.proofs.frames.exchange.Tie as tie

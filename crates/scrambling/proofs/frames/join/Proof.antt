@@ -2,9 +2,10 @@
 -- Assumes nothing.
 use mathlib.Core.Path.{sym, _∙_}
 use borrow.Author.Needs.{needs}
-use Rattle.scrambling.specs.Entry.{alike}
+use Rattle.scrambling.specs.Entry.Ways.{alike}
 use Rattle.scrambling.specs.Exchange.{exchanged}
-use Rattle.scrambling.specs.Frames.{join, of-exchanged}
+use Rattle.scrambling.specs.Frames.{join}
+use Rattle.scrambling.specs.Frames.Placed.{of-exchanged}
 use Rattle.scrambling.proofs.frames.join.Statement.{statement}
 use Rattle.scrambling.proofs.frames.join.Tie as tie
 

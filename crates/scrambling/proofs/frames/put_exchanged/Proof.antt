@@ -5,7 +5,8 @@ use mathlib.Core.Path.{sym, _∙_}
 use native.Mathlib.Omega.{arith}
 use borrow.Author.Needs.{needs}
 use Rattle.outcome.specs.Fill.{Filling, filling-none, filling-long, filling-all}
-use Rattle.scrambling.specs.Exchange.{exchanged, length-exchanged}
+use Rattle.scrambling.specs.Exchange.{exchanged}
+use Rattle.scrambling.specs.Exchange.Pairs.{length-exchanged}
 use Rattle.scrambling.proofs.Exchanging.{frame-more}
 use Rattle.scrambling.proofs.frames.put_exchanged.Statement.{statement}
 use Rattle.scrambling.proofs.frames.put_exchanged.Tie as tie

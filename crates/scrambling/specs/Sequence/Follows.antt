@@ -98,8 +98,8 @@ module _ (f g : ℕ → ℕ) (p : Rule f) (q : Rule g) where
   alike (suc n) = alike-next n (alike n)
 
   -- two sequences of bits that follow the rule are the same
-  pub rule-decides : (n : ℕ) → f n ≡ g n
-  rule-decides n = ap f (sym (add-zero n)) ∙ alike n 0 (omega arith) ∙ ap g (add-zero n)
+  pub rule-one : (n : ℕ) → f n ≡ g n
+  rule-one n = ap f (sym (add-zero n)) ∙ alike n 0 (omega arith) ∙ ap g (add-zero n)
 
 -- a bit is 0 or 1
 pub bit-lt : (n : ℕ) → bit n < 2
