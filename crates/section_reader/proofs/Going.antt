@@ -5,7 +5,8 @@ use mathlib.Core.Path.{_≡_, refl, sym, ap, _∙_, subst}
 use mathlib.Core.Bool.{Bool, true, false, cond}
 use mathlib.Core.List.{List, _++_}
 use mathlib.Core.Option.{none, some}
-use Prim.Native.Nat.{ℕ, _+_, _-_, _*_, _≤_, _<_}
+use Prim.Native.Nat.{ℕ, suc, _+_, _-_, _*_, _≤_, _<_}
+use native.Mathlib.Numerals.{add-one}
 use native.Mathlib.Omega.{arith}
 use borrow.Rule.Slice.PartMut.{midOf, putMid, put-same, mid-len}
 use lib.ListN.{length, take, drop}
@@ -15,7 +16,6 @@ use Rattle.bits.specs.Bits.{unpack}
 use Rattle.section_reader.specs.declared.reader.Frame.{Frame}
 use Rattle.section_reader.specs.declared.reader.Frame.the-variants.{Read, NoHeader}
 use Rattle.section_reader.specs.Reading.{headless, headlessFrom, firstHeadless, bytesRead, marksRead}
-use Rattle.section_reader.specs.Reading.Headers.{goes-on, stops}
 use Rattle.section_reader.specs.Reading.Places.{long-bytes, long-marks, bytes-of-frame, marks-of-frame}
 use Rattle.section_reader.specs.Inner.Framed.{FrameRead, frameSays, frameBytes, frameMarks}
 
@@ -27,6 +27,26 @@ told-read false r p q = refl
 told-missed : (t : Bool) (r : Frame) → r ≡ frameSays t → r ≡ NoHeader → t ≡ true
 told-missed true r p q = refl
 told-missed false r p q = cc
+
+-- ---- the search for the first frame without a Sync Header
+
+module _ (bits : List ℕ) (f : ℕ) (h : f < 98) where
+  one-more : 98 - f ≡ suc (98 - (f + 1))
+  one-more = omega arith
+
+  here : headlessFrom bits f (98 - f) ≡ cond (headless bits f) (some f) (headlessFrom bits (f + 1) (98 - (f + 1)))
+  unfolding headlessFrom
+  here = rw (one-more, add-one)
+
+  -- frame f has a Sync Header: the search goes on after it
+  goes-on : headless bits f ≡ false → headlessFrom bits f (98 - f) ≡ headlessFrom bits (f + 1) (98 - (f + 1))
+  goes-on e = here ∙ rw e
+
+  -- frame f has none: it is found
+  stops : headless bits f ≡ true → headlessFrom bits f (98 - f) ≡ some f
+  stops e = here ∙ rw e
+
+-- ---- both buffers
 
 -- f frames of both buffers, which held b and m, are read
 pub record Going (channel b m : List ℕ) (f : ℕ) (bytes marks : List ℕ) : Type 0 where

@@ -69,7 +69,7 @@ fn read_word(table: &[u16; 256], guide: &[u8; 1351], w: u16, i: usize) -> Readin
     Reading { byte: b, mark: 0 }
 }
 
-// Frame f: its 33 bytes and marks, the Control byte first; nothing if it has no Sync Header.
+// Frame f becomes 33 bytes and 33 marks, the Control byte first; without a Sync Header both buffers stay as they are.
 pub(crate) fn read_frame(
     channel: &[u8],
     table: &[u16; 256],

@@ -34,7 +34,7 @@ abbrev pub frameSays : Bool → Frame
 frameSays true = NoHeader
 frameSays false = Read
 
--- the bytes and marks of a frame that begins with the Sync Header are in the buffers; of one that doesn't nothing is
+-- a frame that begins with the Sync Header leaves its bytes and marks in the buffers, and one that doesn't leaves them as they were
 pub record FrameRead (channel : List ℕ) (f : ℕ) (bytes₀ marks₀ bytes marks : List ℕ) (r : Frame) : Type 0 where
   pub says : r ≡ frameSays (headless (unpack channel) f)
   pub bytes-are : bytes ≡ cond (headless (unpack channel) f) bytes₀ (frameBytes (unpack channel) f)

@@ -1,14 +1,13 @@
--- The first frame without a Sync Header is the first: it has none, and every frame before it has one.
+-- The first frame without a Sync Header is the first (`First`), and there is none exactly where all 98 have one.
 -- Assumes nothing.
-use mathlib.Core.Path.{_≡_, refl, sym, ap, _∙_, subst}
+use mathlib.Core.Path.{_≡_, refl, ap, subst}
 use mathlib.Core.Bool.{Bool, true, false, cond}
 use mathlib.Core.Logic.{_⊎_, inl, inr}
 use mathlib.Core.List.{List}
 use mathlib.Core.Option.{Option, none, some}
-use Prim.Native.Nat.{ℕ, zero, suc, _+_, _-_, _≤_, _<_}
-use native.Mathlib.Numerals.{add-one}
+use Prim.Native.Nat.{ℕ, zero, suc, _+_, _≤_, _<_}
 use native.Mathlib.Omega.{arith}
-use Rattle.outcome.specs.First.{lt-or-le}
+use Rattle.outcome.specs.First.{First, first-one, lt-or-le}
 use Rattle.section_reader.specs.Reading.{headless, headlessFrom, firstHeadless}
 
 -- what the search from frame f on finds: no frame, or the first
@@ -16,18 +15,20 @@ abbrev Found : List ℕ → ℕ → ℕ → Option ℕ → Type 0
 Found bits f n none = (k : ℕ) → f ≤ k → k < f + n → headless bits k ≡ false
 Found bits f n (some g) = (g < f + n) × (headless bits g ≡ true) × ((k : ℕ) → f ≤ k → k < g → headless bits k ≡ false)
 
+not-both : (t : Bool) → t ≡ false → t ≡ true → ⊥
+not-both t p q = let z : _≡_ {A = ℕ} 0 1 = cc in omega arith
+
 module _ (bits : List ℕ) where
-  -- where every frame begins with the Sync Header, there is no such frame
   headed-from : (n f : ℕ) → ((k : ℕ) → f ≤ k → k < f + n → headless bits k ≡ false) → headlessFrom bits f n ≡ none
   unfolding headlessFrom
   headed-from zero f h = refl
   headed-from (suc n) f h = rw (h f (omega arith) (omega arith)) (headed-from n (suc f) (λ k l m. h k (omega arith) (omega arith)))
 
+  -- where every frame begins with the Sync Header, there is none without
   pub all-headed : ((f : ℕ) → f < 98 → headless bits f ≡ false) → firstHeadless bits ≡ none
   unfolding firstHeadless
   all-headed h = headed-from 98 0 (λ k l m. h k (omega arith))
 
-  -- what a search finds
   found-from : (n f : ℕ) → Found bits f n (headlessFrom bits f n)
   unfolding headlessFrom
   found-from zero f = λ k l m. absurd (omega arith)
@@ -52,27 +53,18 @@ module _ (bits : List ℕ) where
   unfolding firstHeadless
   none-headless e f h = subst (Found bits 0 98) e (found-from 98 0) f (omega arith) (omega arith)
 
-  -- one that is found has no Sync Header, is one of the 98, and every frame before it has one
-  pub is-first : (f : ℕ) → firstHeadless bits ≡ some f → (f < 98) × (headless bits f ≡ true) × ((k : ℕ) → k < f → headless bits k ≡ false)
+  -- one that is found is one of the 98 and the first without a Sync Header
+  pub is-first : (f : ℕ) → firstHeadless bits ≡ some f → (f < 98) × First (λ k. headless bits k ≡ true) 98 f
   unfolding firstHeadless
   is-first f e =
       let r = subst (Found bits 0 98) e (found-from 98 0) in
-      (omega (arith, r .0), r .1, λ k l. r .2 k (omega arith) l)
+      let l : f < 98 = omega (arith, r .0) in
+      (l, record { within = omega arith; before = λ k b t. not-both (headless bits k) (r .2 k (omega arith) b) t; holds = λ _. r .1 })
 
--- ---- a search that goes on
-
-module _ (bits : List ℕ) (f : ℕ) (h : f < 98) where
-  one-more : 98 - f ≡ suc (98 - (f + 1))
-  one-more = omega arith
-
-  here : headlessFrom bits f (98 - f) ≡ cond (headless bits f) (some f) (headlessFrom bits (f + 1) (98 - (f + 1)))
-  unfolding headlessFrom
-  here = rw (one-more, add-one)
-
-  -- frame f has a Sync Header: it is among the frames after it
-  pub goes-on : headless bits f ≡ false → headlessFrom bits f (98 - f) ≡ headlessFrom bits (f + 1) (98 - (f + 1))
-  goes-on e = here ∙ rw e
-
-  -- frame f has none: it is the first
-  pub stops : headless bits f ≡ true → headlessFrom bits f (98 - f) ≡ some f
-  stops e = here ∙ rw e
+  -- the first without a Sync Header, if it is one of the 98, is found
+  pub first-is : (f : ℕ) → f < 98 → First (λ k. headless bits k ≡ true) 98 f → firstHeadless bits ≡ some f
+  first-is f h r = by (firstHeadless bits) refl
+    where
+      by : (o : Option ℕ) → firstHeadless bits ≡ o → o ≡ some f
+      by none e = absurd (not-both (headless bits f) (none-headless e f h) (r .holds h))
+      by (some g) e = ap some (first-one (λ k. headless bits k ≡ true) 98 g f (is-first g e .1) r)

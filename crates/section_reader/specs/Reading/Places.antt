@@ -4,7 +4,7 @@ use mathlib.Core.Path.{_≡_, sym, ap₂, _∙_}
 use mathlib.Core.List.{List}
 use Prim.Native.Nat.{ℕ, _+_, _*_, _/_, _%_, _<_}
 use native.Mathlib.Omega.{arith}
-use lib.ListN.{length, getD, take, drop, length-take, length-drop}
+use lib.ListN.{length, take, drop, length-take, length-drop}
 use lib.Seq.{ext-getD, getD-take, getD-drop}
 use Rattle.outcome.specs.Table.{tabulated, tabulated-at, length-tabulated}
 use Rattle.section_reader.specs.Reading.{frameByte, frameMark, byteRead, markRead, bytesRead, marksRead}
@@ -25,6 +25,7 @@ row-part rule f h =
     ∙ sym (getD-drop (33 * f) all i 0) ∙ sym (getD-take 33 (drop (33 * f) all) i 0 b))
 
 module _ (bits : List ℕ) where
+  -- a Section has 3,234 bytes and as many marks
   pub long-bytes : length (bytesRead bits) ≡ 3234
   unfolding bytesRead
   long-bytes = length-tabulated (byteRead bits) 0 3234
