@@ -1,4 +1,3 @@
 pub mod Reading
-pub mod Reads
-pub mod Frames
 pub mod ReadSay
+pub mod Inner

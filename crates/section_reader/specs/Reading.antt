@@ -3,15 +3,17 @@
 -- Assumes nothing.
 use mathlib.Core.Bool.{Bool, cond, not}
 use mathlib.Core.List.{List}
-use Prim.Native.Nat.{ℕ, _+_, _*_, _/_, _%_}
+use mathlib.Core.Option.{Option, none, some}
+use Prim.Native.Nat.{ℕ, zero, suc, _+_, _*_, _/_, _%_}
 use lib.Dec.{eqb}
 use lib.ListN.{take, drop}
-use Rattle.outcome.specs.First.{firstBelow}
 use Rattle.outcome.specs.Table.{tabulated}
 use Rattle.bits.specs.Bits.{number}
 use Rattle.words.specs.declared.Symbol.{Symbol}
 use Rattle.words.specs.declared.Symbol.the-variants.{Byte, Unknown}
 use Rattle.words.specs.Words.{byteOf, sync0, sync1}
+pub mod Headers
+pub mod Places
 
 -- the number of n bits from bit p on
 abbrev pub fieldAt : List ℕ → ℕ → ℕ → ℕ
@@ -21,9 +23,14 @@ fieldAt bits p n = number 0 (take n (drop p bits))
 abbrev pub headless : List ℕ → ℕ → Bool
 headless bits f = not (eqb (fieldAt bits (588 * f) 24) 0b100000000001000000000010)
 
--- the first such frame, or 98
-unfoldable pub firstHeadless : List ℕ → ℕ
-firstHeadless bits = firstBelow (headless bits) 98
+-- the first such frame of the n frames from f on, if there is one
+unfoldable pub headlessFrom : List ℕ → ℕ → ℕ → Option ℕ
+headlessFrom bits f zero = none
+headlessFrom bits f (suc n) = cond (headless bits f) (some f) (headlessFrom bits (suc f) n)
+
+-- the first such frame of all 98, if there is one
+unfoldable pub firstHeadless : List ℕ → Option ℕ
+firstHeadless bits = headlessFrom bits 0 98
 
 -- the word at place i of frame f: the Sync Header has 24 bits, and each word stands after three Merging bits
 abbrev pub wordRead : List ℕ → ℕ → ℕ → ℕ
@@ -39,12 +46,19 @@ abbrev pub markFor : Symbol → ℕ → ℕ → ℕ
 markFor (Byte b) w i = 0
 markFor Unknown w i = cond (eqb i 0) (cond (eqb w sync0) 2 (cond (eqb w sync1) 3 1)) 1
 
--- byte and mark at place k of all 98 times 33
+-- the byte at place i of frame f, and its mark
+abbrev pub frameByte : List ℕ → ℕ → ℕ → ℕ
+frameByte bits f i = byteFor (byteOf (wordRead bits f i))
+
+abbrev pub frameMark : List ℕ → ℕ → ℕ → ℕ
+frameMark bits f i = markFor (byteOf (wordRead bits f i)) (wordRead bits f i) i
+
+-- byte and mark at place k of all 98 times 33, frame by frame
 abbrev pub byteRead : List ℕ → ℕ → ℕ
-byteRead bits k = byteFor (byteOf (wordRead bits (k / 33) (k % 33)))
+byteRead bits k = frameByte bits (k / 33) (k % 33)
 
 abbrev pub markRead : List ℕ → ℕ → ℕ
-markRead bits k = markFor (byteOf (wordRead bits (k / 33) (k % 33))) (wordRead bits (k / 33) (k % 33)) (k % 33)
+markRead bits k = frameMark bits (k / 33) (k % 33)
 
 unfoldable pub bytesRead : List ℕ → List ℕ
 bytesRead bits = tabulated (byteRead bits) 0 3234

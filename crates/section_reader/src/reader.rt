@@ -8,12 +8,12 @@ ghost use Rattle.bits.specs.Bits.{unpack};
 ghost use Rattle.words.specs.Words.{words, byteOf, sync0, sync1};
 ghost use Rattle.words.specs.LookUp.{Guide};
 ghost use Rattle.section_reader.specs.Reading.{fieldAt, byteFor, markFor};
-ghost use Rattle.section_reader.specs.Frames.{FrameWanted, FrameRead, FramesRead};
+ghost use Rattle.section_reader.specs.Inner.Framed.{FrameWanted, FrameRead};
 use words::Symbol;
 
-// What a frame reader finds: a frame, with the number of the next one; or no Sync Header.
+// What a frame reader finds: a frame, or no Sync Header where one should begin.
 pub enum Frame {
-    Read(usize),
+    Read,
     NoHeader,
 }
 
@@ -69,7 +69,7 @@ fn read_word(table: &[u16; 256], guide: &[u8; 1351], w: u16, i: usize) -> Readin
     Reading { byte: b, mark: 0 }
 }
 
-// Frame f goes into places 33 * f to 33 * f + 32 of both buffers.
+// Frame f becomes 33 bytes and 33 marks, the Control byte first; without a Sync Header both buffers stay as they are.
 pub(crate) fn read_frame(
     channel: &[u8],
     table: &[u16; 256],
@@ -79,7 +79,7 @@ pub(crate) fn read_frame(
     marks: &mut [u8],
 ) -> Frame
     requires { ⌜ FrameWanted (now channel) (now table) (now guide) f (now bytes) (now marks) ⌝ }
-    ensures { λ r. ⌜ FrameRead (now (channel .entry)) f (now (bytes .exit)) (now (marks .exit)) r ⌝ }
+    ensures { λ r. ⌜ FrameRead (now (channel .entry)) f (now (bytes .entry)) (now (marks .entry)) (now (bytes .exit)) (now (marks .exit)) r ⌝ }
 {
     let at = 588 * f;
     let second = field(channel, at + 12, 12);
@@ -93,26 +93,9 @@ pub(crate) fn read_frame(
     while i < 33 {
         let w = field(channel, at + 27 + 17 * i, 14) as u16;
         let r = read_word(table, guide, w, i);
-        bytes[33 * f + i] = r.byte;
-        marks[33 * f + i] = r.mark;
+        bytes[i] = r.byte;
+        marks[i] = r.mark;
         i += 1;
     }
-    Frame::Read(f + 1)
-}
-
-// All frames up to the first without a Sync Header, whose number is the answer; 98 if there is none.
-pub(crate) fn read_frames(channel: &[u8], bytes: &mut [u8], marks: &mut [u8]) -> usize
-    requires { ⌜ (length (now channel) ≡ 7203) × (length (now bytes) ≡ 3234) × (length (now marks) ≡ 3234) ⌝ }
-    ensures { λ r. ⌜ FramesRead (now (channel .entry)) (now (bytes .exit)) (now (marks .exit)) r ⌝ }
-{
-    let table = words::all_words();
-    let guide = words::guide();
-    let mut f: usize = 0;
-    while f < 98 {
-        let Frame::Read(next) = read_frame(channel, &table, &guide, f, bytes, marks) else {
-            return f;
-        };
-        f = next;
-    }
-    f
+    Frame::Read
 }

@@ -3,6 +3,7 @@
 use mathlib.Core.Path.{_≡_, refl, sym, ap, _∙_, subst}
 use mathlib.Core.Bool.{Bool, true, false, cond, not}
 use mathlib.Core.List.{List, [], _∷_, _++_}
+use mathlib.Core.Option.{none}
 use Prim.Native.Nat.{ℕ, zero, suc, _+_, _-_, _*_, _≤_, _<_, _^_}
 use native.Mathlib.Nat.{not-suc-le-zero, le-of-suc-le-suc, mod-eq-of-lt}
 use native.Mathlib.Omega.{arith}
@@ -11,7 +12,6 @@ use lib.Dec.{eqb}
 use lib.ListN.{length, getD, take, drop, length-append, length-drop}
 use lib.Seq.{take-append-le, drop-append-le, drop-append-add, take-length}
 use Rattle.outcome.specs.Bytes.{Bytes}
-use Rattle.outcome.specs.First.{found-first}
 use Rattle.outcome.specs.Table.{tabulated, tabulated-at}
 use Rattle.bits.specs.Bits.{bitsOf, number}
 use Rattle.bits.specs.Numbers.{length-bits, number-bits}
@@ -21,7 +21,8 @@ use Rattle.merging.specs.Agree.{word-keeps}
 use Rattle.merging.specs.Chosen.{Written, dsvAfter, beforeWord, withWord, withHeader, withTail}
 use Rattle.merging.specs.Rule.{allowed}
 use Rattle.channel.specs.declared.SectionWriter.{SectionWriter}
-use Rattle.section_reader.specs.Reading.{fieldAt, headless, firstHeadless, wordRead}
+use Rattle.section_reader.specs.Reading.{fieldAt, firstHeadless, wordRead}
+use Rattle.section_reader.specs.Reading.Headers.{all-headed}
 use Rattle.channel.specs.Section.{wordAt, frameWords, withWords, withFrame, withFrames, sectionAfter}
 use Rattle.channel.specs.State.{above, below, levelNow}
 use Rattle.channel.specs.WriteSay.{section}
@@ -155,16 +156,10 @@ module _ (frames control : List ℕ) (hf : Bytes frames) (hc : Bytes control) wh
         (subst (λ (p : ℕ). Laid (withFrames w frames control 0 98 .bits) p (0 + f)) e (all-frames 98 w 0 f h))
 
     -- every frame begins with the Sync Header
-    pub every-header : firstHeadless (section s frames control .bits) ≡ 98
-    unfolding firstHeadless
+    pub every-header : firstHeadless (section s frames control .bits) ≡ none
     every-header =
-        sym (found-first (headless (section s frames control .bits)) 98 98
-        (record { within = omega arith; before = λ f h e. headed f h e; holds = λ l. absurd (omega arith) }))
-      where
-        headed : (f : ℕ) → f < 98 → headless (section s frames control .bits) f ≡ true → ⊥
-        headed f h e =
-            let t : headless (section s frames control .bits) f ≡ false = ap not (eq-eqb (fieldAt (section s frames control .bits) (588 * f) 24) 8392706 (in-section f h .head)) in
-            let z : _≡_ {A = ℕ} 0 1 = cc in omega arith
+        all-headed (section s frames control .bits)
+        (λ f h. ap not (eq-eqb (fieldAt (section s frames control .bits) (588 * f) 24) 8392706 (in-section f h .head)))
 
     -- every word is read as it was written
     pub every-word : (f i : ℕ) → f < 98 → i < 33 → wordRead (section s frames control .bits) f i ≡ wordAt frames control f i

@@ -1,6 +1,6 @@
--- `channel::read_section` meets its contract: each way out is a law of `ReadSay`.
+-- `read_section` meets its contract: a wrong length is one of the `Ways` out, and `read_frames` promises the rest.
 -- Assumes nothing.
-use Rattle.section_reader.specs.ReadSay.{wrong-channel, wrong-bytes, wrong-marks, no-header, all-read}
+use Rattle.section_reader.proofs.Ways.{wrong-channel, wrong-bytes, wrong-marks}
 use borrow.Author.Needs.{needs}
 use Rattle.section_reader.proofs.read_section.Statement.{statement}
 use Rattle.section_reader.proofs.read_section.Tie as tie
@@ -50,12 +50,6 @@ returns-3 c =
 read-frames-requires : tie.Need-read-frames-requires
 read-frames-requires c κs = search needs
 
-clear-requires : tie.Need-clear-requires
-clear-requires c κs = search needs
-
-clear-requires-2 : tie.Need-clear-requires-2
-clear-requires-2 c κs = search needs
-
 same-length-5 : tie.Need-same-length-5
 same-length-5 c = search needs
 
@@ -63,26 +57,7 @@ same-length-6 : tie.Need-same-length-6
 same-length-6 c = search needs
 
 returns-4 : tie.Need-returns-4
-returns-4 c =
-    let e = c .before .before .before .before .before .before in
-    let r = e .before .before .before .before .before .before .before in
-    let d = r .before .before .before in
-    let a = d .before .before .before .before .before .before .args in
-    no-header (a .channel .now) (a .bytes .now) (a .marks .now) (d .before .before .if1 .left) (d .before .if2 .left) (d .if3 .left) _ _ (r .read-frames .result) (r .read-frames .ensures)
-    (e .before .before .if4 .taken) _ _ (e .clear .ensures) (c .before .before .clear2 .ensures)
-
-same-length-7 : tie.Need-same-length-7
-same-length-7 c = search needs
-
-same-length-8 : tie.Need-same-length-8
-same-length-8 c = search needs
-
-returns-5 : tie.Need-returns-5
-returns-5 c =
-    let r = c .before .before .before .before .before in
-    let d = r .before .before .before in
-    let a = d .before .before .before .before .before .before .args in
-    all-read (a .channel .now) (a .bytes .now) (a .marks .now) (d .before .before .if1 .left) (d .before .if2 .left) (d .if3 .left) _ _ (r .read-frames .result) (r .read-frames .ensures) (c .if4 .left)
+returns-4 c = search needs
 
 pub read-section-spec : {M : Type 1} → statement M
 read-section-spec =
@@ -100,11 +75,6 @@ read-section-spec =
     same-length-4
     returns-3
     read-frames-requires
-    clear-requires
-    clear-requires-2
     same-length-5
     same-length-6
-    returns-4
-    same-length-7
-    same-length-8
-    returns-5)
+    returns-4)

@@ -1,11 +1,11 @@
--- `channel::reader::field` meets its contract: the bits lie in three bytes (`field-is`).
+-- `reader::field` meets its contract: the bits lie in three bytes (`field-is`).
 -- Assumes nothing.
 use mathlib.Core.Path.{ap, _∙_}
 use Prim.Native.Nat.{ℕ, _+_, _-_, _/_, _%_, _^_}
 use native.Mathlib.Nat.{mod-lt}
 use native.Mathlib.Omega.{arith}
 use lib.Pow.{pow-pos}
-use Rattle.section_reader.specs.Reads.{unit-is, field-is}
+use Rattle.section_reader.proofs.Fields.{unit-is, field-is}
 use borrow.Author.Needs.{needs}
 use Rattle.section_reader.proofs.reader.field.Statement.{statement}
 use Rattle.section_reader.proofs.reader.field.Tie as tie

@@ -1,4 +1,4 @@
--- `channel::reader::read_word` meets its contract: the guide finds the byte of the word (`looked-up`).
+-- `reader::read_word` meets its contract: the guide finds the byte of the word (`looked-up`).
 -- Assumes nothing.
 use mathlib.Core.Path.{_≡_, refl, sym, ap, _∙_}
 use mathlib.Core.List.{List}

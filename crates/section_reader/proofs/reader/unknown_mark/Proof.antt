@@ -1,4 +1,4 @@
--- `channel::reader::unknown_mark` meets its contract, by its tests.
+-- `reader::unknown_mark` meets its contract, by its tests.
 -- Assumes nothing.
 use borrow.Author.Tests.{eq-eqb, ne-eqb}
 use Rattle.section_reader.proofs.reader.unknown_mark.Statement.{statement}

@@ -1,0 +1,3 @@
+-- What private functions ask and answer.
+-- Assumes nothing.
+pub mod Framed
