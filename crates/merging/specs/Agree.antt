@@ -36,7 +36,8 @@ headers-short (b ∷ bs) h = rw (starts-short (b ∷ bs) h) (headers-short bs (o
 
 -- ---- the rule after `past` is the rule after what its state shows
 
-eqb-plus : (a n k : ℕ) → eqb (a + n) (a + k) ≡ eqb n k
+-- a test of two sums with the same first number
+pub eqb-plus : (a n k : ℕ) → eqb (a + n) (a + k) ≡ eqb n k
 eqb-plus a n k = go (eqb n k) refl
   where
     go : (t : Bool) → eqb n k ≡ t → eqb (a + n) (a + k) ≡ t

@@ -6,6 +6,7 @@ use Prim.Native.Nat.{ℕ, suc, _+_}
 use lib.Dec.{eqb}
 use Rattle.bits.specs.Bits.{bitsOf}
 use Rattle.words.specs.Runs.{runs}
+pub mod Earlier
 
 -- the Sync Header of clause 19.2 (Annex E prints it without its last two digits)
 abbrev pub header : List ℕ
