@@ -7,6 +7,7 @@ use Prim.Native.Nat.{ℕ, _+_}
 use lib.Dec.{ltb}
 use Rattle.merging.specs.Rule.{header, allowed}
 use Rattle.merging.specs.Dsv.{levelAfter, ups, downs, absolute}
+pub mod Behind
 
 -- what is written: the bits of the Section so far, the level after them, and how many bits there ever were at level +1 and at -1
 pub record Written : Type 0 where
