@@ -1,6 +1,6 @@
 -- A Section is written the same whether or not the choice of its Merging bits sees the bits of earlier Sections.
 -- Assumes nothing.
-use mathlib.Core.Path.{_≡_, refl, sym, ap, _∙_}
+use mathlib.Core.Path.{_≡_, sym, ap, _∙_}
 use mathlib.Core.List.{List, [], _++_, append-assoc, append-nil}
 use Prim.Native.Nat.{ℕ}
 use Rattle.merging.specs.Chosen.{Written, after, dsvAfter, beforeWord, beforeHeader, withWord, withHeader, withTail}

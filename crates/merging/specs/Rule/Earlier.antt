@@ -1,7 +1,7 @@
 -- `allowed` is asked of the bits of one Section. That bits of earlier Sections change nothing: of what stands before a Sync Header it only matters
 -- that the Sync Header may follow it.
 -- Assumes nothing.
-use mathlib.Core.Path.{_≡_, refl, sym, ap, ap₂, _∙_}
+use mathlib.Core.Path.{_≡_, sym, ap, ap₂, _∙_}
 use mathlib.Core.Bool.{Bool, _&&_}
 use mathlib.Core.List.{List, _++_, append-assoc}
 use Prim.Native.Nat.{ℕ, _+_, _%_}
