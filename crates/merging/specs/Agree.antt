@@ -45,7 +45,7 @@ eqb-plus a n k = go (eqb n k) refl
     go false e = ne-eqb (a + n) (a + k) (λ p. eqb-false n k e (omega arith))
 
 module _ (past : List ℕ) (s : ℕ) (d : Tied past s) where
-  allowed-is : (n : ℕ) (next m : List ℕ) → headers next ≡ n → allowed past next m ≡ ruled n s (m ++ next)
+  pub allowed-is : (n : ℕ) (next m : List ℕ) → headers next ≡ n → allowed past next m ≡ ruled n s (m ++ next)
   unfolding allowed ruled
   allowed-is n next m e =
       ap₂ _&&_ (d .runs-on (m ++ next))
@@ -207,7 +207,8 @@ module _ (s : ℕ) (bs : List ℕ) (t : Takes bs s) (dsv : List ℕ → ℕ) whe
 
 -- ---- before a Sync Header
 
-alike : (a b : Bool) → T (cond a b (not b)) → b ≡ a
+-- a test that two answers are the same says so
+pub alike : (a b : Bool) → T (cond a b (not b)) → b ≡ a
 alike true true t = refl
 alike true false t = absurd t
 alike false true t = absurd t

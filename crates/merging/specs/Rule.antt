@@ -8,7 +8,7 @@ use Rattle.bits.specs.Bits.{bitsOf}
 use Rattle.words.specs.Runs.{runs}
 pub mod Earlier
 
--- the Sync Header of clause 19.2 (Annex E prints it without its last two digits)
+-- the Sync Header of clause 19.2 (Annex E prints it with 22 digits: with nine ZEROs in each of its two runs, and not ten)
 abbrev pub header : List ℕ
 header = bitsOf 24 0b100000000001000000000010
 
