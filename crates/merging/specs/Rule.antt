@@ -24,6 +24,7 @@ headers [] = 0
 headers (b ∷ bs) = cond (starts header (b ∷ bs)) (suc (headers bs)) (headers bs)
 
 -- after the bits `past` and before the bits `next` the Merging bits m are allowed: the run rule holds, and no Sync Header is made beyond
--- those that `past` and `next` have by themselves (a word has none; the Sync Header at its own place is one)
+-- those that `past` and `next` have by themselves (a word has none; the Sync Header at its own place is one). A Section's bits are enough for
+-- `past`: those of earlier Sections change nothing (Rule/Earlier, `earlier-allowed`)
 unfoldable pub allowed : List ℕ → List ℕ → List ℕ → Bool
 allowed past next m = runs (past ++ (m ++ next)) && eqb (headers (past ++ (m ++ next))) (headers past + headers next)

@@ -1,6 +1,7 @@
 -- A Section is written the same whether or not the choice of its Merging bits sees the bits of earlier Sections.
 -- Assumes nothing.
 use mathlib.Core.Path.{_≡_, sym, ap, _∙_}
+use mathlib.Core.Logic.{_⊎_, inl, inr}
 use mathlib.Core.List.{List, [], _++_, append-assoc, append-nil}
 use Prim.Native.Nat.{ℕ}
 use Rattle.merging.specs.Chosen.{Written, after, dsvAfter, beforeWord, beforeHeader, withWord, withHeader, withTail}
@@ -17,14 +18,22 @@ pub record Begun (w : Written) : Type 0 where
   pub rest : List ℕ
   pub begins : w .bits ≡ header ++ rest
 
--- the first Sync Header begins it
-pub begun-first : (w : Written) → w .bits ≡ [] → Begun (withHeader w)
-unfolding withHeader
-begun-first w e = record { rest = []; begins = ap (λ (l : List ℕ). l ++ header) e ∙ sym (append-nil header) }
-
--- more bits leave it begun
-pub begun-after : (w : Written) (bs : List ℕ) → Begun w → Begun (after w bs)
+begun-after : (w : Written) (bs : List ℕ) → Begun w → Begun (after w bs)
 begun-after w bs b = record { rest = b .rest ++ bs; begins = ap (λ (l : List ℕ). l ++ bs) (b .begins) ∙ append-assoc header (b .rest) bs }
+
+-- it does after the first Sync Header, and after whatever is written then
+pub begun-header : (w : Written) → (w .bits ≡ []) ⊎ Begun w → Begun (withHeader w)
+unfolding withHeader
+begun-header w (inl e) = record { rest = []; begins = ap (λ (l : List ℕ). l ++ header) e ∙ sym (append-nil header) }
+begun-header w (inr b) = begun-after w header b
+
+pub begun-word : (w : Written) (next : List ℕ) → Begun w → Begun (withWord w next)
+unfolding withWord
+begun-word w next b = begun-after w (beforeWord (allowed (w .bits) next) (dsvAfter (w .level) (w .plus) (w .minus) next) ++ next) b
+
+pub begun-tail : (w : Written) → Begun w → Begun (withTail w)
+unfolding withTail
+begun-tail w b = begun-after w (beforeHeader (allowed (w .bits) header) (dsvAfter (w .level) (w .plus) (w .minus) header)) b
 
 module _ (old : List ℕ) where
   after-behind : (w : Written) (bs : List ℕ) → after (behind old w) bs ≡ behind old (after w bs)
