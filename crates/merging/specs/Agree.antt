@@ -36,7 +36,8 @@ headers-short (b ∷ bs) h = rw (starts-short (b ∷ bs) h) (headers-short bs (o
 
 -- ---- the rule after `past` is the rule after what its state shows
 
-eqb-plus : (a n k : ℕ) → eqb (a + n) (a + k) ≡ eqb n k
+-- a test of two sums with the same first number
+pub eqb-plus : (a n k : ℕ) → eqb (a + n) (a + k) ≡ eqb n k
 eqb-plus a n k = go (eqb n k) refl
   where
     go : (t : Bool) → eqb n k ≡ t → eqb (a + n) (a + k) ≡ t
@@ -44,7 +45,7 @@ eqb-plus a n k = go (eqb n k) refl
     go false e = ne-eqb (a + n) (a + k) (λ p. eqb-false n k e (omega arith))
 
 module _ (past : List ℕ) (s : ℕ) (d : Tied past s) where
-  allowed-is : (n : ℕ) (next m : List ℕ) → headers next ≡ n → allowed past next m ≡ ruled n s (m ++ next)
+  pub allowed-is : (n : ℕ) (next m : List ℕ) → headers next ≡ n → allowed past next m ≡ ruled n s (m ++ next)
   unfolding allowed ruled
   allowed-is n next m e =
       ap₂ _&&_ (d .runs-on (m ++ next))
@@ -127,6 +128,10 @@ module _ (ok : List ℕ → Bool) (dsv : List ℕ → ℕ) where
       (λ u. better-allowed ok dsv b1 m001 (or-first (ok m100 || ok m010) (ok b1) (ok m001) (better-allowed ok dsv m100 m010) u))
       (or-more (ok m100) (ok m010) (ok m001) (ok m000) t))
 
+  pub header-keeps : (P : List ℕ → Type 0) → P m100 → P m000 → P (beforeHeader ok dsv)
+  unfolding beforeHeader
+  header-keeps P p q = better-keeps P ok dsv m100 m000 p q
+
   pub header-allowed : T (ok m100 || ok m000) → T (ok (beforeHeader ok dsv))
   unfolding beforeHeader
   header-allowed t = better-allowed ok dsv m100 m000 t
@@ -177,7 +182,8 @@ taken bs s t =
     }
 
 module _ (past : List ℕ) (s : ℕ) (d : Tied past s) (bs : List ℕ) (short : length bs < 24) (t : Takes bs s) (dsv : List ℕ → ℕ) where
-  one-agrees : (m : List ℕ) → T (wordAgrees bs s m) → allowed past bs m ≡ passes s bs m
+  -- the rule and the automaton agree on Merging bits m before a word
+  pub one-agrees : (m : List ℕ) → T (wordAgrees bs s m) → allowed past bs m ≡ passes s bs m
   unfolding wordAgrees
   one-agrees m u = allowed-is past s d 0 bs m (headers-short bs short) ∙ agreed (steps s (m ++ bs)) (ruled 0 s (m ++ bs)) u
 
@@ -201,7 +207,8 @@ module _ (s : ℕ) (bs : List ℕ) (t : Takes bs s) (dsv : List ℕ → ℕ) whe
 
 -- ---- before a Sync Header
 
-alike : (a b : Bool) → T (cond a b (not b)) → b ≡ a
+-- a test that two answers are the same says so
+pub alike : (a b : Bool) → T (cond a b (not b)) → b ≡ a
 alike true true t = refl
 alike true false t = absurd t
 alike false true t = absurd t
@@ -213,7 +220,8 @@ module _ (s : ℕ) (t : T (takesHeader s)) (dsv : List ℕ → ℕ) where
   header-passes = header-allowed (passes s start22) dsv (and-right (headerAgrees s m100 && headerAgrees s m000) _ t)
 
   module _ (past : List ℕ) (d : Tied past s) where
-    head-agrees : (m : List ℕ) → T (headerAgrees s m) → allowed past header m ≡ passes s start22 m
+    -- and before a Sync Header
+    pub head-agrees : (m : List ℕ) → T (headerAgrees s m) → allowed past header m ≡ passes s start22 m
     unfolding headerAgrees headers
     head-agrees m u = allowed-is past s d 1 header m refl ∙ alike (live (steps s (m ++ start22))) (ruled 1 s (m ++ header)) u
 

@@ -1,12 +1,17 @@
 -- Which of the allowed Merging bits are chosen (document 01, "Channel bits"): those with the smallest absolute DSV after the word or header that
 -- follows; of equals, one with a ONE goes before 000, and otherwise the order is 100, 010, 001.
 -- Assumes nothing.
+use mathlib.Core.Path.{_≡_}
 use mathlib.Core.Bool.{Bool, cond}
 use mathlib.Core.List.{List, [], _∷_, _++_}
-use Prim.Native.Nat.{ℕ, _+_}
-use lib.Dec.{ltb}
+use Prim.Native.Nat.{ℕ, _+_, _≤_, _<_}
+use lib.Dec.{T, ltb}
+use lib.ListN.{length, getD}
 use Rattle.merging.specs.Rule.{header, allowed}
 use Rattle.merging.specs.Dsv.{levelAfter, ups, downs, absolute}
+pub mod Fold
+pub mod Stands
+pub mod Behind
 
 -- what is written: the bits of the Section so far, the level after them, and how many bits there ever were at level +1 and at -1
 pub record Written : Type 0 where
@@ -29,10 +34,6 @@ after w bs =
 abbrev pub dsvAfter : ℕ → ℕ → ℕ → List ℕ → List ℕ → ℕ
 dsvAfter level plus minus next m = absolute (plus + ups level (m ++ next)) (minus + downs level (m ++ next))
 
--- of two, in this order: the second if it is allowed and the first isn't, or if both are and the second has the smaller DSV
-abbrev pub better : (List ℕ → Bool) → (List ℕ → ℕ) → List ℕ → List ℕ → List ℕ
-better ok dsv a b = cond (ok b) (cond (ok a) (cond (ltb (dsv b) (dsv a)) b a) b) a
-
 abbrev pub m100 : List ℕ
 m100 = 1 ∷ 0 ∷ 0 ∷ []
 
@@ -44,6 +45,29 @@ m001 = 0 ∷ 0 ∷ 1 ∷ []
 
 abbrev pub m000 : List ℕ
 m000 = 0 ∷ 0 ∷ 0 ∷ []
+
+-- all that may stand before a word, and before a Sync Header, in document 01's order of preference
+abbrev pub forWord : List (List ℕ)
+forWord = m100 ∷ m010 ∷ m001 ∷ m000 ∷ []
+
+abbrev pub forHeader : List (List ℕ)
+forHeader = m100 ∷ m000 ∷ []
+
+-- document 01's choice from a list in order of preference: m stands in it and is allowed, no allowed one has a smaller absolute DSV, and each
+-- allowed one before it has a larger
+pub record Chosen (from : List (List ℕ)) (ok : List ℕ → Bool) (dsv : List ℕ → ℕ) (m : List ℕ) : Type 0 where
+  pub place : ℕ
+  pub stands : place < length from
+  pub is : getD from place [] ≡ m
+  pub is-allowed : T (ok m)
+  pub none-smaller : (k : ℕ) → k < length from → T (ok (getD from k [])) → dsv m ≤ dsv (getD from k [])
+  pub earlier-larger : (k : ℕ) → k < place → T (ok (getD from k [])) → dsv m < dsv (getD from k [])
+
+-- it is found by taking the better of two, again and again (Chosen/Fold: `chosen-word`, `chosen-header`)
+
+-- of two, in this order: the second if it is allowed and the first isn't, or if both are and the second has the smaller DSV
+abbrev pub better : (List ℕ → Bool) → (List ℕ → ℕ) → List ℕ → List ℕ → List ℕ
+better ok dsv a b = cond (ok b) (cond (ok a) (cond (ltb (dsv b) (dsv a)) b a) b) a
 
 -- before a word
 unfoldable pub beforeWord : (List ℕ → Bool) → (List ℕ → ℕ) → List ℕ

@@ -9,6 +9,7 @@ use Rattle.words.specs.Runs.{gaps}
 use Rattle.merging.specs.Rule.{header, headers}
 use Rattle.merging.specs.Automaton.{steps, live, shown, start22}
 use Rattle.merging.specs.Chosen.{m100, m010, m001, m000}
+pub mod Apart
 
 -- not broken, and at most eight ZEROs since the last ONE
 unfoldable pub ready : ℕ → Bool

@@ -6,8 +6,9 @@ use Prim.Native.Nat.{ℕ, suc, _+_}
 use lib.Dec.{eqb}
 use Rattle.bits.specs.Bits.{bitsOf}
 use Rattle.words.specs.Runs.{runs}
+pub mod Earlier
 
--- the Sync Header of clause 19.2 (Annex E prints it without its last two digits)
+-- the Sync Header of clause 19.2 (Annex E prints it with 22 digits: with nine ZEROs in each of its two runs, and not ten)
 abbrev pub header : List ℕ
 header = bitsOf 24 0b100000000001000000000010
 
@@ -23,6 +24,7 @@ headers [] = 0
 headers (b ∷ bs) = cond (starts header (b ∷ bs)) (suc (headers bs)) (headers bs)
 
 -- after the bits `past` and before the bits `next` the Merging bits m are allowed: the run rule holds, and no Sync Header is made beyond
--- those that `past` and `next` have by themselves (a word has none; the Sync Header at its own place is one)
+-- those that `past` and `next` have by themselves (a word has none; the Sync Header at its own place is one). A Section's bits are enough for
+-- `past`: those of earlier Sections change nothing (Rule/Earlier, `earlier-allowed`)
 unfoldable pub allowed : List ℕ → List ℕ → List ℕ → Bool
 allowed past next m = runs (past ++ (m ++ next)) && eqb (headers (past ++ (m ++ next))) (headers past + headers next)

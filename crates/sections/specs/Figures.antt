@@ -9,7 +9,6 @@ use Rattle.bits.specs.Bits.{bitsOf}
 use Rattle.words.specs.Words.{words, wordOf, sync0, sync1}
 use Rattle.merging.specs.Automaton.{step, steps, live, shown}
 use Rattle.merging.specs.Chosen.{Written, after, withHeader, m100, m010, m001, m000}
-use Rattle.merging.specs.Ready.{ruled}
 use Rattle.merging.specs.Rule.{header, headers, allowed}
 
 -- (59) is 10000000000100
@@ -50,9 +49,3 @@ figure-header = (refl, refl)
 pub figure-sync0 : (after (withHeader first) (m000 ++ bitsOf 14 sync0) .plus ≡ 19) × (after (withHeader first) (m000 ++ bitsOf 14 sync0) .minus ≡ 22)
 unfolding withHeader
 figure-sync0 = (refl, refl)
-
--- The one case in which 24 literal bits and the automaton part: 000 before SYNC 0 where five ZEROs stand since the last ONE. The Sync Header's 23rd
--- bit is then SYNC 0's last, so that the rule does not see it yet. SYNC 0 only follows a Sync Header (one ZERO since the last ONE): it never occurs.
-pub apart : (ruled 0 5 (m000 ++ bitsOf 14 sync0) ≡ true) × (live (steps 5 (m000 ++ bitsOf 14 sync0)) ≡ false)
-unfolding ruled step headers
-apart = (refl, refl)

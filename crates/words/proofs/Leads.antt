@@ -1,98 +1,67 @@
--- The guide of src/table.rt as a list: under the remainder of its word each byte is found, by one test over all 256.
+-- The guide as a list: under each remainder the place of the word that leaves it, or 0. That each word is the only one with its remainder is one
+-- test over all 256.
 -- Assumes nothing.
-use mathlib.Core.Bool.{Bool}
-use mathlib.Core.List.{List, [], _∷_}
-use Prim.Native.Nat.{ℕ, suc, _%_}
-use lib.Dec.{T, eqb, ltb, eqb→eq, ltb→lt}
-use lib.ListN.{getD}
-use Rattle.outcome.specs.Bytes.{Bytes, bytes-nil, bytes-cons}
-use Rattle.outcome.specs.Table.{allBelow, below, and-left, and-right}
-use Rattle.words.specs.Words.{words, wordOf}
-use Rattle.words.specs.LookUp.{Guide}
-use Rattle.words.specs.Every.{every}
+use mathlib.Core.Path.{_≡_, refl, sym, ap, _∙_}
+use mathlib.Core.Bool.{cond}
+use mathlib.Core.Logic.{_⊎_, inl, inr}
+use mathlib.Core.List.{List, map}
+use Prim.Native.Nat.{ℕ, _<_, _≤_, _%_}
+use native.Mathlib.Omega.{arith}
+use borrow.Author.Tests.{lt-ltb}
+use lib.Dec.{T, eqb, ltb, eqb→eq}
+use lib.ListN.{length, getD, length-map, List·getD-map, List·getD-eq-default}
+use Rattle.outcome.specs.First.{lt-or-le}
+use Rattle.outcome.specs.Table.{tabulated, tabulated-at, length-tabulated}
+use Rattle.words.specs.Words.{words, wordOf, placeOf}
+use Rattle.words.specs.Every.{every, each}
+use Rattle.words.specs.Facts.{how-many, nowhere}
+use Rattle.words.specs.LookUp.{Free, Guide}
 
-unfoldable pub table : List ℕ
-table =
-    0 ∷ 0 ∷ 0 ∷ 0 ∷ 0 ∷ 0 ∷ 0 ∷ 0 ∷ 0 ∷ 0 ∷ 0 ∷ 0 ∷ 0 ∷ 0 ∷ 0 ∷ 0 ∷ 0 ∷ 0 ∷ 0 ∷ 0 ∷ 0 ∷ 0 ∷ 0 ∷ 0 ∷
-    0 ∷ 0 ∷ 0 ∷ 0 ∷ 0 ∷ 0 ∷ 0 ∷ 0 ∷ 32 ∷ 133 ∷ 101 ∷ 0 ∷ 69 ∷ 0 ∷ 0 ∷ 0 ∷ 0 ∷ 0 ∷ 0 ∷ 0 ∷ 0 ∷ 124 ∷ 0 ∷ 92 ∷
-    0 ∷ 0 ∷ 0 ∷ 60 ∷ 188 ∷ 0 ∷ 0 ∷ 0 ∷ 0 ∷ 0 ∷ 0 ∷ 28 ∷ 220 ∷ 252 ∷ 0 ∷ 0 ∷ 13 ∷ 141 ∷ 109 ∷ 0 ∷ 77 ∷ 0 ∷ 0 ∷ 0 ∷
-    45 ∷ 173 ∷ 0 ∷ 38 ∷ 166 ∷ 230 ∷ 0 ∷ 102 ∷ 0 ∷ 0 ∷ 0 ∷ 0 ∷ 0 ∷ 0 ∷ 0 ∷ 0 ∷ 0 ∷ 0 ∷ 89 ∷ 0 ∷ 0 ∷ 0 ∷ 57 ∷ 185 ∷
-    0 ∷ 0 ∷ 0 ∷ 0 ∷ 0 ∷ 0 ∷ 25 ∷ 217 ∷ 249 ∷ 0 ∷ 0 ∷ 12 ∷ 140 ∷ 108 ∷ 0 ∷ 76 ∷ 0 ∷ 0 ∷ 0 ∷ 44 ∷ 172 ∷ 0 ∷ 16 ∷ 144 ∷
-    112 ∷ 0 ∷ 80 ∷ 0 ∷ 0 ∷ 0 ∷ 0 ∷ 0 ∷ 21 ∷ 149 ∷ 117 ∷ 0 ∷ 85 ∷ 0 ∷ 0 ∷ 0 ∷ 53 ∷ 181 ∷ 0 ∷ 0 ∷ 0 ∷ 0 ∷ 0 ∷ 0 ∷
-    206 ∷ 213 ∷ 245 ∷ 0 ∷ 0 ∷ 0 ∷ 9 ∷ 137 ∷ 105 ∷ 0 ∷ 73 ∷ 0 ∷ 0 ∷ 0 ∷ 41 ∷ 169 ∷ 0 ∷ 0 ∷ 0 ∷ 0 ∷ 0 ∷ 0 ∷ 0 ∷ 0 ∷
-    0 ∷ 0 ∷ 0 ∷ 20 ∷ 148 ∷ 116 ∷ 0 ∷ 84 ∷ 0 ∷ 0 ∷ 0 ∷ 52 ∷ 180 ∷ 0 ∷ 0 ∷ 0 ∷ 0 ∷ 0 ∷ 0 ∷ 156 ∷ 212 ∷ 244 ∷ 0 ∷ 0 ∷
-    0 ∷ 0 ∷ 0 ∷ 0 ∷ 0 ∷ 0 ∷ 0 ∷ 0 ∷ 0 ∷ 0 ∷ 0 ∷ 0 ∷ 0 ∷ 0 ∷ 0 ∷ 0 ∷ 0 ∷ 0 ∷ 0 ∷ 0 ∷ 0 ∷ 0 ∷ 17 ∷ 145 ∷
-    113 ∷ 0 ∷ 81 ∷ 0 ∷ 0 ∷ 0 ∷ 49 ∷ 177 ∷ 0 ∷ 0 ∷ 0 ∷ 0 ∷ 0 ∷ 0 ∷ 153 ∷ 209 ∷ 241 ∷ 0 ∷ 0 ∷ 0 ∷ 0 ∷ 0 ∷ 0 ∷ 0 ∷
-    0 ∷ 0 ∷ 0 ∷ 0 ∷ 0 ∷ 0 ∷ 0 ∷ 0 ∷ 0 ∷ 0 ∷ 0 ∷ 0 ∷ 0 ∷ 0 ∷ 0 ∷ 0 ∷ 48 ∷ 205 ∷ 225 ∷ 0 ∷ 237 ∷ 0 ∷ 0 ∷ 0 ∷
-    37 ∷ 165 ∷ 0 ∷ 0 ∷ 0 ∷ 0 ∷ 0 ∷ 0 ∷ 5 ∷ 197 ∷ 229 ∷ 0 ∷ 0 ∷ 0 ∷ 0 ∷ 0 ∷ 0 ∷ 0 ∷ 0 ∷ 0 ∷ 0 ∷ 0 ∷ 0 ∷ 0 ∷
-    176 ∷ 163 ∷ 240 ∷ 0 ∷ 208 ∷ 0 ∷ 0 ∷ 0 ∷ 0 ∷ 0 ∷ 0 ∷ 4 ∷ 204 ∷ 224 ∷ 0 ∷ 236 ∷ 0 ∷ 0 ∷ 0 ∷ 36 ∷ 164 ∷ 0 ∷ 0 ∷ 0 ∷
-    0 ∷ 0 ∷ 0 ∷ 162 ∷ 196 ∷ 228 ∷ 0 ∷ 0 ∷ 0 ∷ 0 ∷ 0 ∷ 0 ∷ 0 ∷ 0 ∷ 0 ∷ 0 ∷ 0 ∷ 0 ∷ 0 ∷ 192 ∷ 132 ∷ 100 ∷ 0 ∷ 68 ∷
-    0 ∷ 0 ∷ 0 ∷ 0 ∷ 0 ∷ 0 ∷ 1 ∷ 201 ∷ 232 ∷ 0 ∷ 233 ∷ 0 ∷ 0 ∷ 0 ∷ 33 ∷ 161 ∷ 0 ∷ 0 ∷ 0 ∷ 0 ∷ 0 ∷ 0 ∷ 51 ∷ 193 ∷
-    226 ∷ 0 ∷ 0 ∷ 0 ∷ 0 ∷ 0 ∷ 0 ∷ 0 ∷ 0 ∷ 0 ∷ 0 ∷ 0 ∷ 0 ∷ 0 ∷ 211 ∷ 129 ∷ 97 ∷ 0 ∷ 65 ∷ 0 ∷ 0 ∷ 0 ∷ 0 ∷ 0 ∷
-    0 ∷ 0 ∷ 0 ∷ 0 ∷ 0 ∷ 0 ∷ 0 ∷ 0 ∷ 0 ∷ 0 ∷ 0 ∷ 0 ∷ 0 ∷ 0 ∷ 0 ∷ 0 ∷ 0 ∷ 0 ∷ 0 ∷ 0 ∷ 0 ∷ 0 ∷ 0 ∷ 0 ∷
-    0 ∷ 0 ∷ 0 ∷ 0 ∷ 0 ∷ 0 ∷ 0 ∷ 0 ∷ 0 ∷ 0 ∷ 0 ∷ 0 ∷ 0 ∷ 0 ∷ 0 ∷ 0 ∷ 0 ∷ 0 ∷ 0 ∷ 0 ∷ 0 ∷ 0 ∷ 0 ∷ 0 ∷
-    0 ∷ 0 ∷ 0 ∷ 0 ∷ 0 ∷ 0 ∷ 0 ∷ 0 ∷ 0 ∷ 0 ∷ 0 ∷ 0 ∷ 0 ∷ 0 ∷ 0 ∷ 0 ∷ 0 ∷ 0 ∷ 0 ∷ 0 ∷ 0 ∷ 0 ∷ 0 ∷ 0 ∷
-    0 ∷ 0 ∷ 0 ∷ 0 ∷ 0 ∷ 0 ∷ 0 ∷ 0 ∷ 0 ∷ 0 ∷ 0 ∷ 0 ∷ 0 ∷ 0 ∷ 0 ∷ 0 ∷ 0 ∷ 0 ∷ 0 ∷ 0 ∷ 0 ∷ 0 ∷ 0 ∷ 0 ∷
-    0 ∷ 0 ∷ 0 ∷ 0 ∷ 0 ∷ 0 ∷ 0 ∷ 0 ∷ 0 ∷ 0 ∷ 0 ∷ 0 ∷ 0 ∷ 0 ∷ 0 ∷ 0 ∷ 0 ∷ 0 ∷ 0 ∷ 0 ∷ 0 ∷ 0 ∷ 0 ∷ 0 ∷
-    0 ∷ 0 ∷ 0 ∷ 0 ∷ 0 ∷ 0 ∷ 0 ∷ 0 ∷ 0 ∷ 157 ∷ 125 ∷ 0 ∷ 93 ∷ 0 ∷ 0 ∷ 0 ∷ 61 ∷ 189 ∷ 0 ∷ 0 ∷ 0 ∷ 0 ∷ 0 ∷ 0 ∷
-    29 ∷ 221 ∷ 253 ∷ 0 ∷ 0 ∷ 0 ∷ 0 ∷ 0 ∷ 0 ∷ 0 ∷ 0 ∷ 0 ∷ 0 ∷ 0 ∷ 0 ∷ 0 ∷ 34 ∷ 160 ∷ 243 ∷ 0 ∷ 195 ∷ 0 ∷ 0 ∷ 0 ∷
-    0 ∷ 0 ∷ 0 ∷ 0 ∷ 152 ∷ 120 ∷ 0 ∷ 88 ∷ 0 ∷ 0 ∷ 0 ∷ 56 ∷ 184 ∷ 0 ∷ 0 ∷ 0 ∷ 0 ∷ 0 ∷ 0 ∷ 24 ∷ 216 ∷ 248 ∷ 0 ∷ 0 ∷
-    203 ∷ 200 ∷ 235 ∷ 0 ∷ 202 ∷ 0 ∷ 0 ∷ 0 ∷ 121 ∷ 234 ∷ 0 ∷ 0 ∷ 128 ∷ 96 ∷ 0 ∷ 64 ∷ 0 ∷ 0 ∷ 0 ∷ 0 ∷ 0 ∷ 0 ∷ 0 ∷ 155 ∷
-    123 ∷ 0 ∷ 91 ∷ 0 ∷ 0 ∷ 0 ∷ 59 ∷ 187 ∷ 0 ∷ 0 ∷ 0 ∷ 0 ∷ 0 ∷ 0 ∷ 27 ∷ 219 ∷ 251 ∷ 0 ∷ 0 ∷ 8 ∷ 136 ∷ 104 ∷ 0 ∷ 72 ∷
-    0 ∷ 0 ∷ 0 ∷ 40 ∷ 168 ∷ 0 ∷ 3 ∷ 131 ∷ 99 ∷ 0 ∷ 67 ∷ 0 ∷ 0 ∷ 0 ∷ 0 ∷ 0 ∷ 0 ∷ 0 ∷ 0 ∷ 0 ∷ 0 ∷ 0 ∷ 0 ∷ 0 ∷
-    0 ∷ 0 ∷ 0 ∷ 0 ∷ 0 ∷ 0 ∷ 0 ∷ 0 ∷ 0 ∷ 0 ∷ 0 ∷ 0 ∷ 0 ∷ 0 ∷ 11 ∷ 139 ∷ 107 ∷ 0 ∷ 75 ∷ 0 ∷ 0 ∷ 0 ∷ 43 ∷ 171 ∷
-    0 ∷ 0 ∷ 0 ∷ 0 ∷ 0 ∷ 0 ∷ 0 ∷ 0 ∷ 0 ∷ 0 ∷ 0 ∷ 0 ∷ 0 ∷ 0 ∷ 0 ∷ 0 ∷ 0 ∷ 0 ∷ 0 ∷ 0 ∷ 0 ∷ 0 ∷ 0 ∷ 0 ∷
-    0 ∷ 0 ∷ 0 ∷ 127 ∷ 0 ∷ 95 ∷ 0 ∷ 0 ∷ 0 ∷ 63 ∷ 191 ∷ 0 ∷ 0 ∷ 0 ∷ 0 ∷ 0 ∷ 0 ∷ 31 ∷ 223 ∷ 255 ∷ 0 ∷ 0 ∷ 0 ∷ 0 ∷
-    0 ∷ 0 ∷ 0 ∷ 0 ∷ 0 ∷ 0 ∷ 0 ∷ 0 ∷ 0 ∷ 19 ∷ 147 ∷ 115 ∷ 0 ∷ 83 ∷ 0 ∷ 0 ∷ 0 ∷ 0 ∷ 0 ∷ 0 ∷ 0 ∷ 0 ∷ 0 ∷ 0 ∷
-    0 ∷ 0 ∷ 0 ∷ 0 ∷ 0 ∷ 0 ∷ 0 ∷ 0 ∷ 0 ∷ 0 ∷ 0 ∷ 0 ∷ 0 ∷ 0 ∷ 0 ∷ 0 ∷ 0 ∷ 15 ∷ 143 ∷ 111 ∷ 0 ∷ 79 ∷ 0 ∷ 0 ∷
-    0 ∷ 47 ∷ 175 ∷ 0 ∷ 0 ∷ 0 ∷ 0 ∷ 0 ∷ 0 ∷ 0 ∷ 0 ∷ 0 ∷ 0 ∷ 0 ∷ 0 ∷ 0 ∷ 0 ∷ 0 ∷ 0 ∷ 0 ∷ 0 ∷ 0 ∷ 0 ∷ 0 ∷
-    0 ∷ 0 ∷ 0 ∷ 0 ∷ 0 ∷ 0 ∷ 0 ∷ 0 ∷ 0 ∷ 0 ∷ 0 ∷ 0 ∷ 0 ∷ 0 ∷ 0 ∷ 0 ∷ 0 ∷ 0 ∷ 0 ∷ 0 ∷ 0 ∷ 0 ∷ 0 ∷ 0 ∷
-    0 ∷ 0 ∷ 0 ∷ 0 ∷ 0 ∷ 0 ∷ 0 ∷ 0 ∷ 0 ∷ 23 ∷ 151 ∷ 119 ∷ 0 ∷ 87 ∷ 0 ∷ 0 ∷ 0 ∷ 55 ∷ 183 ∷ 0 ∷ 0 ∷ 0 ∷ 0 ∷ 0 ∷
-    0 ∷ 159 ∷ 215 ∷ 247 ∷ 0 ∷ 0 ∷ 0 ∷ 0 ∷ 0 ∷ 0 ∷ 0 ∷ 0 ∷ 0 ∷ 0 ∷ 0 ∷ 0 ∷ 0 ∷ 0 ∷ 0 ∷ 0 ∷ 0 ∷ 0 ∷ 0 ∷ 0 ∷
-    0 ∷ 0 ∷ 0 ∷ 0 ∷ 0 ∷ 0 ∷ 0 ∷ 0 ∷ 0 ∷ 0 ∷ 0 ∷ 0 ∷ 0 ∷ 0 ∷ 0 ∷ 0 ∷ 0 ∷ 0 ∷ 0 ∷ 0 ∷ 0 ∷ 0 ∷ 0 ∷ 0 ∷
-    0 ∷ 0 ∷ 0 ∷ 0 ∷ 0 ∷ 0 ∷ 0 ∷ 0 ∷ 0 ∷ 0 ∷ 0 ∷ 0 ∷ 0 ∷ 0 ∷ 0 ∷ 0 ∷ 0 ∷ 0 ∷ 0 ∷ 0 ∷ 0 ∷ 0 ∷ 0 ∷ 0 ∷
-    0 ∷ 0 ∷ 0 ∷ 0 ∷ 0 ∷ 0 ∷ 0 ∷ 0 ∷ 0 ∷ 0 ∷ 0 ∷ 0 ∷ 0 ∷ 0 ∷ 0 ∷ 0 ∷ 0 ∷ 0 ∷ 0 ∷ 0 ∷ 0 ∷ 0 ∷ 0 ∷ 0 ∷
-    0 ∷ 0 ∷ 0 ∷ 0 ∷ 0 ∷ 0 ∷ 0 ∷ 0 ∷ 0 ∷ 0 ∷ 0 ∷ 0 ∷ 0 ∷ 0 ∷ 0 ∷ 0 ∷ 0 ∷ 7 ∷ 207 ∷ 227 ∷ 0 ∷ 239 ∷ 0 ∷ 0 ∷
-    0 ∷ 39 ∷ 167 ∷ 0 ∷ 0 ∷ 0 ∷ 0 ∷ 0 ∷ 0 ∷ 179 ∷ 199 ∷ 231 ∷ 0 ∷ 0 ∷ 0 ∷ 0 ∷ 0 ∷ 0 ∷ 0 ∷ 0 ∷ 0 ∷ 0 ∷ 0 ∷ 0 ∷
-    0 ∷ 35 ∷ 135 ∷ 103 ∷ 0 ∷ 71 ∷ 0 ∷ 0 ∷ 0 ∷ 0 ∷ 0 ∷ 0 ∷ 0 ∷ 0 ∷ 0 ∷ 0 ∷ 0 ∷ 0 ∷ 0 ∷ 0 ∷ 0 ∷ 0 ∷ 0 ∷ 0 ∷
-    0 ∷ 0 ∷ 0 ∷ 0 ∷ 0 ∷ 0 ∷ 0 ∷ 0 ∷ 0 ∷ 0 ∷ 0 ∷ 0 ∷ 0 ∷ 0 ∷ 0 ∷ 0 ∷ 0 ∷ 158 ∷ 126 ∷ 0 ∷ 94 ∷ 0 ∷ 0 ∷ 0 ∷
-    62 ∷ 190 ∷ 0 ∷ 0 ∷ 0 ∷ 0 ∷ 0 ∷ 0 ∷ 30 ∷ 222 ∷ 254 ∷ 0 ∷ 0 ∷ 0 ∷ 0 ∷ 0 ∷ 0 ∷ 0 ∷ 0 ∷ 0 ∷ 0 ∷ 0 ∷ 0 ∷ 0 ∷
-    6 ∷ 134 ∷ 238 ∷ 0 ∷ 70 ∷ 0 ∷ 0 ∷ 0 ∷ 0 ∷ 0 ∷ 0 ∷ 0 ∷ 0 ∷ 0 ∷ 0 ∷ 0 ∷ 0 ∷ 0 ∷ 0 ∷ 0 ∷ 0 ∷ 0 ∷ 0 ∷ 0 ∷
-    0 ∷ 0 ∷ 0 ∷ 0 ∷ 0 ∷ 0 ∷ 0 ∷ 0 ∷ 14 ∷ 142 ∷ 110 ∷ 0 ∷ 78 ∷ 0 ∷ 0 ∷ 0 ∷ 46 ∷ 174 ∷ 0 ∷ 0 ∷ 0 ∷ 0 ∷ 0 ∷ 0 ∷
-    0 ∷ 0 ∷ 0 ∷ 0 ∷ 0 ∷ 0 ∷ 0 ∷ 154 ∷ 122 ∷ 0 ∷ 90 ∷ 0 ∷ 0 ∷ 0 ∷ 58 ∷ 186 ∷ 0 ∷ 0 ∷ 0 ∷ 0 ∷ 0 ∷ 0 ∷ 26 ∷ 218 ∷
-    250 ∷ 0 ∷ 0 ∷ 0 ∷ 0 ∷ 0 ∷ 0 ∷ 0 ∷ 0 ∷ 0 ∷ 0 ∷ 0 ∷ 0 ∷ 0 ∷ 2 ∷ 130 ∷ 98 ∷ 0 ∷ 66 ∷ 0 ∷ 0 ∷ 0 ∷ 0 ∷ 0 ∷
-    22 ∷ 150 ∷ 118 ∷ 0 ∷ 86 ∷ 0 ∷ 0 ∷ 0 ∷ 54 ∷ 182 ∷ 0 ∷ 0 ∷ 0 ∷ 0 ∷ 0 ∷ 0 ∷ 198 ∷ 214 ∷ 246 ∷ 0 ∷ 0 ∷ 0 ∷ 10 ∷ 138 ∷
-    106 ∷ 0 ∷ 74 ∷ 0 ∷ 0 ∷ 0 ∷ 42 ∷ 170 ∷ 0 ∷ 0 ∷ 0 ∷ 0 ∷ 0 ∷ 0 ∷ 0 ∷ 0 ∷ 0 ∷ 0 ∷ 0 ∷ 0 ∷ 0 ∷ 0 ∷ 0 ∷ 0 ∷
-    0 ∷ 0 ∷ 0 ∷ 0 ∷ 0 ∷ 0 ∷ 0 ∷ 0 ∷ 0 ∷ 0 ∷ 0 ∷ 0 ∷ 0 ∷ 0 ∷ 0 ∷ 0 ∷ 0 ∷ 0 ∷ 0 ∷ 0 ∷ 0 ∷ 0 ∷ 0 ∷ 0 ∷
-    0 ∷ 0 ∷ 0 ∷ 0 ∷ 0 ∷ 0 ∷ 0 ∷ 0 ∷ 0 ∷ 0 ∷ 0 ∷ 0 ∷ 0 ∷ 0 ∷ 18 ∷ 146 ∷ 114 ∷ 0 ∷ 82 ∷ 0 ∷ 0 ∷ 0 ∷ 50 ∷ 178 ∷
-    0 ∷ 0 ∷ 0 ∷ 0 ∷ 0 ∷ 0 ∷ 194 ∷ 210 ∷ 242 ∷ 0 ∷ 0 ∷ 0 ∷ 0 ∷ 0 ∷ 0 ∷ 0 ∷ 0 ∷ 0 ∷ 0 ∷ 0 ∷ 0 ∷ 0 ∷ 0 ∷ 0 ∷
-    0 ∷ 0 ∷ 0 ∷ 0 ∷ 0 ∷ 0 ∷ 0 ∷ 0 ∷ 0 ∷ 0 ∷ 0 ∷ 0 ∷ 0 ∷ 0 ∷ 0 ∷ 0 ∷ 0 ∷ 0 ∷ 0 ∷ 0 ∷ 0 ∷ 0 ∷ 0 ∷ 0 ∷
-    0 ∷ 0 ∷ 0 ∷ 0 ∷ 0 ∷ 0 ∷ 0 ∷ 0 ∷ 0 ∷ 0 ∷ 0 ∷ 0 ∷ 0 ∷ 0 ∷ 0 ∷ 0 ∷ 0 ∷ 0 ∷ 0 ∷ 0 ∷ 0 ∷ 0 ∷ 0 ∷ 0 ∷
-    0 ∷ 0 ∷ 0 ∷ 0 ∷ 0 ∷ 0 ∷ 0 ∷ 0 ∷ 0 ∷ 0 ∷ 0 ∷ 0 ∷ 0 ∷ 0 ∷ 0 ∷ 0 ∷ 0 ∷ 0 ∷ 0 ∷ 0 ∷ 0 ∷ 0 ∷ 0 ∷ 0 ∷
-    0 ∷ 0 ∷ 0 ∷ 0 ∷ 0 ∷ 0 ∷ 0 ∷
-    []
+unfoldable pub remainders : List ℕ
+remainders = map (λ w. w % 1351) words
 
-led : ℕ → Bool
-led k = eqb (getD table (wordOf k % 1351) 0) k
+-- the byte whose word leaves the remainder i, and 0 where none does
+unfoldable pub entry : ℕ → ℕ
+entry i = cond (ltb (placeOf i remainders) 256) (placeOf i remainders) 0
 
-all-led : T (allBelow led 256)
-unfolding led table words
-all-led = tt
+abbrev pub table : List ℕ
+table = tabulated entry 0 1351
 
-all-bytes : T (every (λ i x. ltb x 256) 0 table)
-unfolding table
-all-bytes = tt
+how-many-remainders : length remainders ≡ 256
+unfolding remainders
+how-many-remainders = length-map words (λ w. w % 1351) ∙ how-many
 
-bytes-of : (i : ℕ) (xs : List ℕ) → T (every (λ i x. ltb x 256) i xs) → Bytes xs
-bytes-of i [] t = bytes-nil
-bytes-of i (x ∷ xs) t =
-    bytes-cons x xs (ltb→lt x 256 (and-left (ltb x 256) (every (λ i x. ltb x 256) (suc i) xs) t))
-    (bytes-of (suc i) xs (and-right (ltb x 256) (every (λ i x. ltb x 256) (suc i) xs) t))
+remainder-at : (b : ℕ) → getD remainders b 0 ≡ wordOf b % 1351
+unfolding remainders
+remainder-at b = List·getD-map (λ w. w % 1351) words b 0
+
+all-different : T (every (λ k r. eqb (placeOf r remainders) k) 0 remainders)
+unfolding remainders words
+all-different = tt
+
+remainder-place : (b : ℕ) → b < 256 → placeOf (wordOf b % 1351) remainders ≡ b
+remainder-place b h =
+    ap (λ (r : ℕ). placeOf r remainders) (sym (remainder-at b))
+    ∙ eqb→eq (placeOf (getD remainders b 0) remainders) b (each (λ k r. eqb (placeOf r remainders) k) remainders all-different b (rw how-many-remainders h))
+
+entry-of-word : (b : ℕ) → b < 256 → entry (wordOf b % 1351) ≡ b
+unfolding entry
+entry-of-word b h = rw (remainder-place b h, lt-ltb b 256 h)
+
+entry-free : (i : ℕ) → Free i → entry i ≡ 0
+unfolding entry
+entry-free i n =
+    let e : placeOf i remainders ≡ 256 = nowhere i remainders (λ k l p. n k (omega (arith, how-many-remainders)) (sym (remainder-at k) ∙ p)) ∙ how-many-remainders in
+    rw e refl
 
 pub guides : Guide table
-unfolding led
 guides =
     record {
-      leads = λ k h. eqb→eq (getD table (wordOf k % 1351) 0) k (below led 256 all-led k h);
-      bytes = bytes-of 0 table all-bytes;
+      long = length-tabulated entry 0 1351;
+      leads = λ b h. tabulated-at entry 1351 (wordOf b % 1351) (omega arith) ∙ entry-of-word b h;
+      free = λ i n. at i n (lt-or-le i 1351);
     }
+  where
+    at : (i : ℕ) → Free i → (i < 1351) ⊎ (1351 ≤ i) → getD table i 0 ≡ 0
+    at i n (inl l) = tabulated-at entry 1351 i l ∙ entry-free i n
+    at i n (inr l) = List·getD-eq-default table 0 {n = i} (omega (arith, length-tabulated entry 0 1351))

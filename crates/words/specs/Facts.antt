@@ -14,6 +14,7 @@ use Rattle.words.specs.Words.{words, wordOf, sync0, sync1, placeOf, symb
 use Rattle.words.specs.Every.{every, each}
 use Rattle.words.specs.Runs.{runs}
 use Rattle.words.specs.LookUp.{Guide, lookedUp}
+use Rattle.words.specs.LookUp.One.{guide-bytes}
 
 pub how-many : length words ≡ 256
 unfolding words
@@ -80,7 +81,7 @@ unfolding byteOf
 byte-of-word b h = rw (word-place b h, lt-ltb b 256 h)
 
 -- what is nowhere in a list has the place after its end
-nowhere : (w : ℕ) (xs : List ℕ) → ((k : ℕ) → k < length xs → getD xs k 0 ≡ w → ⊥) → placeOf w xs ≡ length xs
+pub nowhere : (w : ℕ) (xs : List ℕ) → ((k : ℕ) → k < length xs → getD xs k 0 ≡ w → ⊥) → placeOf w xs ≡ length xs
 nowhere w [] h = refl
 nowhere w (x ∷ xs) h = rw (ne-eqb x w (h 0 (omega arith))) (ap suc (nowhere w xs (λ k l. h (suc k) (suc-le-suc l))))
 
@@ -105,7 +106,7 @@ module _ (g : List ℕ) (guide : Guide g) (w : ℕ) where
   unfolding guess
   by-guess true e =
       let p : wordOf guess ≡ w = eqb-true (wordOf guess) w e in
-      sym (byte-of-word guess (guide .bytes (w % 1351))) ∙ ap byteOf p
+      sym (byte-of-word guess (guide-bytes guide (w % 1351))) ∙ ap byteOf p
   by-guess false e =
       let q : wordOf guess ≡ w → ⊥ = eqb-false (wordOf guess) w e in
       sym (no-word w (λ b h p. q (ap wordOf (ap (λ (x : ℕ). getD g (x % 1351) 0) (sym p) ∙ guide .leads b h) ∙ p)))

@@ -3,3 +3,4 @@ pub mod Runs
 pub mod Every
 pub mod LookUp
 pub mod Facts
+pub mod Restored

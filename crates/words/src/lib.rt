@@ -19,7 +19,7 @@ pub fn all_words() -> [u16; 256]
     table::WORDS
 }
 
-// Where to look for a word: under its remainder by 1,351, which no two words share, stands the only byte that it can be.
+// Where to look for a word: under its remainder by 1,351, which no two words share, stands the only byte that it can be; elsewhere 0.
 pub fn guide() -> [u8; 1351]
     ensures { λ r. ⌜ Guide r ⌝ }
 {

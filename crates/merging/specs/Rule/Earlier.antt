@@ -1,0 +1,49 @@
+-- `allowed` is asked of the bits of one Section. That bits of earlier Sections change nothing: of what stands before a Sync Header it only matters
+-- that the Sync Header may follow it.
+-- Assumes nothing.
+use mathlib.Core.Path.{_≡_, sym, ap, ap₂, _∙_}
+use mathlib.Core.Bool.{Bool, _&&_}
+use mathlib.Core.List.{List, _++_, append-assoc}
+use Prim.Native.Nat.{ℕ, _+_, _%_}
+use native.Mathlib.Nat.{add-assoc}
+use lib.Dec.{eqb}
+use Rattle.words.specs.Runs.{gaps, runs}
+use Rattle.merging.specs.Agree.{eqb-plus}
+use Rattle.merging.specs.Automaton.{shown}
+use Rattle.merging.specs.Chosen.{beforeWord, beforeHeader}
+use Rattle.merging.specs.Rule.{header, headers, allowed}
+use Rattle.merging.specs.Ties.{Tied, tied-first}
+
+-- the rule after a state and the bits `rest`
+unfoldable afterState : ℕ → List ℕ → List ℕ → List ℕ → Bool
+afterState s rest next m =
+    gaps (s % 11) (rest ++ (m ++ next)) && eqb (headers (shown s ++ (rest ++ (m ++ next)))) (headers (shown s ++ rest) + headers next)
+
+by-state : (past : List ℕ) (s : ℕ) → Tied past s → (rest next m : List ℕ) → allowed (past ++ rest) next m ≡ afterState s rest next m
+unfolding allowed afterState
+by-state past s d rest next m =
+    let whole : (past ++ rest) ++ (m ++ next) ≡ past ++ (rest ++ (m ++ next)) = append-assoc past rest (m ++ next) in
+    let x = headers (shown s ++ (rest ++ (m ++ next))) in
+    let y = headers (shown s ++ rest) in
+    ap₂ _&&_ (ap runs whole ∙ d .runs-on (rest ++ (m ++ next)))
+    (ap₂ eqb (ap headers whole ∙ d .headers-on (rest ++ (m ++ next)))
+    (ap (λ (n : ℕ). n + headers next) (d .headers-on rest) ∙ add-assoc (headers past) y (headers next))
+    ∙ eqb-plus (headers past) x (y + headers next))
+
+-- bits with the same state allow the same, whatever follows them
+pub allowed-same : (a b : List ℕ) (s : ℕ) → Tied a s → Tied b s → (rest next m : List ℕ) → allowed (a ++ rest) next m ≡ allowed (b ++ rest) next m
+allowed-same a b s p q rest next m = by-state a s p rest next m ∙ sym (by-state b s q rest next m)
+
+module _ (old : List ℕ) (follows : Tied (old ++ header) 12) (rest next : List ℕ) where
+  -- after a Sync Header, and any bits after it, the bits `old` before that Sync Header change nothing that is allowed
+  pub earlier-allowed : (m : List ℕ) → allowed (old ++ (header ++ rest)) next m ≡ allowed (header ++ rest) next m
+  earlier-allowed m =
+      ap (λ (l : List ℕ). allowed l next m) (sym (append-assoc old header rest)) ∙ allowed-same (old ++ header) header 12 follows tied-first rest next m
+
+  -- so the Merging bits chosen before a word are the same
+  pub earlier-word : (dsv : List ℕ → ℕ) → beforeWord (allowed (old ++ (header ++ rest)) next) dsv ≡ beforeWord (allowed (header ++ rest) next) dsv
+  earlier-word dsv = λ i. beforeWord (λ m. earlier-allowed m i) dsv
+
+  -- and so are those chosen before a Sync Header
+  pub earlier-header : (dsv : List ℕ → ℕ) → beforeHeader (allowed (old ++ (header ++ rest)) next) dsv ≡ beforeHeader (allowed (header ++ rest) next) dsv
+  earlier-header dsv = λ i. beforeHeader (λ m. earlier-allowed m i) dsv
