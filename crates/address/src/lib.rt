@@ -1,13 +1,13 @@
 // The address of a Sector (clause 14.2).
 ghost use mathlib.Core.Path.{_≡_};
-ghost use Rattle.address.specs.Address.{decimal, inRange};
+ghost use Rattle.address.specs.Address.{twoDigits, inRange};
 
 // The three address bytes of a Sector's header: minute, second, frame.
 pub struct HeaderTime(pub u8, pub u8, pub u8);
 
-// Two decimal digits that make a number of at most `top`.
+// Two twoDigits digits that make a number of at most `top`.
 fn two_digits(b: u8, top: u8) -> bool
-    ensures { λ r. ⌜ r ≡ decimal top b ⌝ }
+    ensures { λ r. ⌜ r ≡ twoDigits top b ⌝ }
 {
     let tens = b / 16;
     let ones = b % 16;

@@ -1,18 +1,18 @@
--- `address::two_digits` meets its contract: each way out has the tests that `decimal` asks.
+-- `address::two_digits` meets its contract: each way out has the tests that `twoDigits` asks.
 -- Assumes nothing.
 use mathlib.Core.Path.{_≡_, refl}
 use borrow.Author.Needs.{needs}
 use borrow.Author.Tests.{lt-ltb, le-ltb}
-use Rattle.address.specs.Address.{decimal}
+use Rattle.address.specs.Address.{twoDigits}
 use Rattle.address.proofs.two_digits.Statement.{statement}
 use Rattle.address.proofs.two_digits.Tie as tie
 
 returns : tie.Need-returns
-unfolding decimal
+unfolding twoDigits
 returns c = simp (le-ltb _ _ (c .if1 .taken))
 
 returns-2 : tie.Need-returns-2
-unfolding decimal
+unfolding twoDigits
 returns-2 c = simp (lt-ltb _ _ (c .before .if1 .left), le-ltb _ _ (c .if2 .taken))
 
 mul-result : tie.Need-mul-result
@@ -22,7 +22,7 @@ add-result : tie.Need-add-result
 add-result c = search needs
 
 returns-3 : tie.Need-returns-3
-unfolding decimal
+unfolding twoDigits
 returns-3 c = simp (lt-ltb _ _ (c .before .if1 .left), lt-ltb _ _ (c .if2 .left))
 
 pub two-digits-spec : {M : Type 1} → statement M
