@@ -6,3 +6,4 @@ pub mod Back
 pub mod Unpacked
 pub mod ThereAndBack
 pub mod One
+pub mod Calls

@@ -95,7 +95,7 @@ module _ (frames control : List ℕ) (hf : Bytes frames) (hc : Bytes control) wh
         rw (eq-eqb (length channel) 7203 l, eq-eqb (length bytes) 3234 p, eq-eqb (length marks) 3234 q, e, every-header frames control hf hc s, bytes-back, marks-back)
 
     -- the bits of a Section are 57,624, each 0 or 1
-    whole : unpack (pack 7203 (section s frames control .bits)) ≡ section s frames control .bits
+    pub whole : unpack (pack 7203 (section s frames control .bits)) ≡ section s frames control .bits
     unfolding section sectionAfter
     whole =
         let w : Written = record { bits = []; level = levelNow (s .level); plus = above (s .dsv); minus = below (s .dsv) } in
@@ -103,11 +103,15 @@ module _ (frames control : List ℕ) (hf : Bytes frames) (hc : Bytes control) wh
         let e : withFrames w frames control 0 98 .bits ≡ g .bits = ap (λ (x : Written). x .bits) (g .is) in
         unpack-pack 7203 (withFrames w frames control 0 98 .bits) (subst Binary (sym e) (g .binary)) (ap length e ∙ g .long)
 
+    -- the bytes of a Section are read back whole
+    pub packed-comes-back : (bytes marks : List ℕ) → length bytes ≡ 3234 → length marks ≡ 3234
+        → sectionRead (pack 7203 (section s frames control .bits)) bytes marks ≡ readOut (done []) (laidBytes frames control) laidMarks
+    packed-comes-back bytes marks p q = there-and-back (pack 7203 (section s frames control .bits)) bytes marks (length-pack 7203 (section s frames control .bits)) whole p q
+
     -- what `write` leaves in its buffer, where it is not refused, `read_section` turns back
     pub written-comes-back : (out bytes marks : List ℕ) → length frames ≡ 3136 → length control ≡ 96 → length out ≡ 7203 → right s ≡ true → s .sections < 450000
         → length bytes ≡ 3234 → length marks ≡ 3234
         → sectionRead (written s frames control out .out) bytes marks ≡ readOut (done []) (laidBytes frames control) laidMarks
     unfolding written writeSay
     written-comes-back out bytes marks f k l r n p q =
-        rw (eq-eqb (length frames) 3136 f, eq-eqb (length control) 96 k, eq-eqb (length out) 7203 l, r, lt-ltb (s .sections) 450000 n)
-        (there-and-back (pack 7203 (section s frames control .bits)) bytes marks (length-pack 7203 (section s frames control .bits)) whole p q)
+        rw (eq-eqb (length frames) 3136 f, eq-eqb (length control) 96 k, eq-eqb (length out) 7203 l, r, lt-ltb (s .sections) 450000 n) (packed-comes-back bytes marks p q)
