@@ -5,5 +5,5 @@ pub mod Figures
 pub mod Back
 pub mod Unpacked
 pub mod ThereAndBack
-pub mod One
+pub mod Coincide
 pub mod Calls
