@@ -1,6 +1,6 @@
 -- What a writer makes of a Section a reader turns back into the same bytes: the words stand where a reader looks for them.
 -- Assumes nothing.
-use mathlib.Core.Path.{_≡_, refl, sym, ap, _∙_, subst}
+use mathlib.Core.Path.{_≡_, sym, ap, _∙_, subst}
 use mathlib.Core.Bool.{Bool, true, false, cond, not}
 use mathlib.Core.List.{List, [], _∷_, _++_}
 use Prim.Native.Nat.{ℕ, zero, suc, _+_, _-_, _*_, _≤_, _<_, _^_}
@@ -17,7 +17,6 @@ use Rattle.bits.specs.Bits.{bitsOf, number}
 use Rattle.bits.specs.Numbers.{length-bits, number-bits}
 use Rattle.words.specs.Facts.{word-14}
 use Rattle.words.specs.Words.{wordOf, sync0, sync1}
-use Rattle.merging.specs.Agree.{word-keeps}
 use Rattle.merging.specs.Chosen.{Written, dsvAfter, beforeWord, withWord, withHeader, withTail}
 use Rattle.merging.specs.Rule.{allowed}
 use Rattle.channel.specs.declared.SectionWriter.{SectionWriter}
@@ -25,6 +24,7 @@ use Rattle.section_reader.specs.Reading.{fieldAt, headless, firstHeadless, word
 use Rattle.channel.specs.Section.{wordAt, frameWords, withWords, withFrame, withFrames, sectionAfter}
 use Rattle.channel.specs.State.{above, below, levelNow}
 use Rattle.channel.specs.WriteSay.{section}
+use Rattle.sections.specs.MergingBits.{word-three}
 use Rattle.sections.specs.Carried.{Grown, grown-word, grown-words, grown-header, grown-tail, grown-frame, grown-frames}
 
 -- ---- fields of what is written
@@ -61,8 +61,7 @@ unfolding withWord
 word-field w x h =
     let ok = allowed (w .bits) (bitsOf 14 x) in
     let dsv = dsvAfter (w .level) (w .plus) (w .minus) (bitsOf 14 x) in
-    let l : length (beforeWord ok dsv) ≡ 3 = word-keeps ok dsv (λ m. length m ≡ 3) refl refl refl refl in
-    field-last (w .bits) (beforeWord ok dsv) 14 x (length (w .bits) + 3) (ap (λ (n : ℕ). length (w .bits) + n) (sym l)) h
+    field-last (w .bits) (beforeWord ok dsv) 14 x (length (w .bits) + 3) (ap (λ (n : ℕ). length (w .bits) + n) (sym (word-three ok dsv))) h
 
 words-field : (ws : List ℕ) (w : Written) (i : ℕ) → ((j : ℕ) → j < length ws → getD ws j 0 < 2 ^ 14) → i < length ws
     → fieldAt (withWords w ws .bits) (length (w .bits) + (17 * i + 3)) 14 ≡ getD ws i 0

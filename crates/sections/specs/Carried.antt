@@ -14,9 +14,8 @@ use Rattle.outcome.specs.First.{lt-or-le}
 use Rattle.outcome.specs.Table.{tabulated, and-right, of-true}
 use Rattle.bits.specs.Bits.{bitsOf}
 use Rattle.bits.specs.Numbers.{length-bits}
-use Rattle.merging.specs.Agree.{better-keeps, word-keeps}
 use Rattle.merging.specs.Cases.{Binary, binary-append, binary-bits}
-use Rattle.merging.specs.Chosen.{Written, after, dsvAfter, beforeWord, beforeHeader, withWord, withHeader, withTail, m100, m000}
+use Rattle.merging.specs.Chosen.{Written, after, dsvAfter, beforeWord, beforeHeader, withWord, withHeader, withTail}
 use Rattle.merging.specs.Dsv.{levelAfter, ups, downs}
 use Rattle.merging.specs.Rule.{header, allowed}
 use Rattle.merging.specs.Traces.{ups-downs, level-append, ups-append, downs-append}
@@ -24,6 +23,7 @@ use Rattle.channel.specs.declared.SectionWriter.{SectionWriter}
 use Rattle.channel.specs.Section.{wordAt, frameWords, withWords, withFrame, withFrames, sectionAfter}
 use Rattle.channel.specs.State.{fresh, right, levelRight, above, below, levelNow, levelThen}
 use Rattle.channel.specs.WriteSay.{section, afterSection}
+use Rattle.sections.specs.MergingBits.{word-three, word-binary, header-three, header-binary}
 
 -- w′ is w and n bits more
 pub record Grown (n : ℕ) (w w′ : Written) : Type 0 where
@@ -59,26 +59,23 @@ grown-then {m} {n} {a} {b} {c} p q =
 pub grown-word : (w : Written) (x : ℕ) → Grown 17 w (withWord w (bitsOf 14 x))
 unfolding withWord
 grown-word w x =
-    let m = beforeWord (allowed (w .bits) (bitsOf 14 x)) (dsvAfter (w .level) (w .plus) (w .minus) (bitsOf 14 x)) in
-    let l : length m ≡ 3 = word-keeps (allowed (w .bits) (bitsOf 14 x)) (dsvAfter (w .level) (w .plus) (w .minus) (bitsOf 14 x)) (λ m. length m ≡ 3) refl refl refl refl in
-    let b : Binary m = word-keeps (allowed (w .bits) (bitsOf 14 x)) (dsvAfter (w .level) (w .plus) (w .minus) (bitsOf 14 x)) Binary (omega arith, (omega arith, (omega arith, tt))) (omega arith, (omega arith, (omega arith, tt))) (omega arith, (omega arith, (omega arith, tt))) (omega arith, (omega arith, (omega arith, tt))) in
-    record { bits = m ++ bitsOf 14 x; long = omega (arith, length-append m (bitsOf 14 x), length-bits 14 x); binary = binary-append m (bitsOf 14 x) b (binary-bits 14 x); is = refl }
-
-three : (ok : List ℕ → Bool) (dsv : List ℕ → ℕ) → length (beforeHeader ok dsv) ≡ 3
-unfolding beforeHeader
-three ok dsv = better-keeps (λ m. length m ≡ 3) ok dsv m100 m000 refl refl
-
-three-binary : (ok : List ℕ → Bool) (dsv : List ℕ → ℕ) → Binary (beforeHeader ok dsv)
-unfolding beforeHeader
-three-binary ok dsv = better-keeps Binary ok dsv m100 m000 (omega arith, (omega arith, (omega arith, tt))) (omega arith, (omega arith, (omega arith, tt)))
+    let ok = allowed (w .bits) (bitsOf 14 x) in
+    let dsv = dsvAfter (w .level) (w .plus) (w .minus) (bitsOf 14 x) in
+    let m = beforeWord ok dsv in
+    record {
+      bits = m ++ bitsOf 14 x;
+      long = omega (arith, length-append m (bitsOf 14 x), length-bits 14 x, word-three ok dsv);
+      binary = binary-append m (bitsOf 14 x) (word-binary ok dsv) (binary-bits 14 x);
+      is = refl;
+    }
 
 pub grown-tail : (w : Written) → Grown 3 w (withTail w)
 unfolding withTail
 grown-tail w =
     record {
       bits = beforeHeader (allowed (w .bits) header) (dsvAfter (w .level) (w .plus) (w .minus) header);
-      long = three (allowed (w .bits) header) (dsvAfter (w .level) (w .plus) (w .minus) header);
-      binary = three-binary (allowed (w .bits) header) (dsvAfter (w .level) (w .plus) (w .minus) header);
+      long = header-three (allowed (w .bits) header) (dsvAfter (w .level) (w .plus) (w .minus) header);
+      binary = header-binary (allowed (w .bits) header) (dsvAfter (w .level) (w .plus) (w .minus) header);
       is = refl;
     }
 

@@ -1,3 +1,4 @@
+pub mod MergingBits
 pub mod Runs
 pub mod Stream
 pub mod Carried

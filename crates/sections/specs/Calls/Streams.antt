@@ -18,7 +18,8 @@ use Rattle.merging.specs.Rule.{header, starts}
 use Rattle.channel.specs.declared.SectionWriter.{SectionWriter}
 use Rattle.channel.specs.State.{right}
 use Rattle.channel.specs.WriteSay.{section, afterSection, writeSay, written}
-use Rattle.sections.specs.Stream.{Part, streamOf, runs-everywhere, headers-at}
+use Rattle.sections.specs.Stream.{Part, streamOf}
+use Rattle.sections.specs.Stream.Rules.{runs-everywhere, headers-at}
 use Rattle.sections.specs.ThereAndBack.{whole}
 use Rattle.sections.specs.Calls.{Call, writes, parts, sectionSteps, outgoing}
 
