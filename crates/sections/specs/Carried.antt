@@ -14,7 +14,8 @@ use Rattle.outcome.specs.First.{lt-or-le}
 use Rattle.outcome.specs.Table.{tabulated, and-right, of-true}
 use Rattle.bits.specs.Bits.{bitsOf}
 use Rattle.bits.specs.Numbers.{length-bits}
-use Rattle.merging.specs.Cases.{Binary, binary-append, binary-bits}
+use Rattle.bits.specs.Binary.{Binary}
+use Rattle.bits.specs.Binary.Parts.{binary-append, binary-bits}
 use Rattle.merging.specs.Chosen.{Written, after, dsvAfter, beforeWord, beforeHeader, withWord, withHeader, withTail}
 use Rattle.merging.specs.Dsv.{levelAfter, ups, downs}
 use Rattle.merging.specs.Rule.{header, allowed}

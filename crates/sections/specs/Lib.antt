@@ -4,7 +4,6 @@ pub mod Stream
 pub mod Carried
 pub mod Figures
 pub mod Back
-pub mod Unpacked
 pub mod ThereAndBack
 pub mod Coincide
 pub mod Calls

@@ -7,7 +7,7 @@ use Prim.Native.Nat.{ℕ}
 use native.Mathlib.Omega.{arith}
 use lib.ListN.{length}
 use Rattle.merging.specs.Agree.{better-keeps, word-keeps}
-use Rattle.merging.specs.Cases.{Binary}
+use Rattle.bits.specs.Binary.{Binary}
 use Rattle.merging.specs.Chosen.{beforeWord, beforeHeader, m100, m000}
 
 b100 : Binary m100

@@ -9,15 +9,15 @@ use native.Mathlib.Omega.{arith}
 use borrow.Author.Tests.{eq-eqb, lt-ltb}
 use lib.Dec.{eqb}
 use lib.ListN.{length, getD}
-use lib.Seq.{ext-getD}
 use Rattle.outcome.specs.Bytes.{Bytes}
 use Rattle.outcome.specs.Say.{done}
-use Rattle.outcome.specs.Table.{tabulated, tabulated-at, length-tabulated}
+use Rattle.outcome.specs.Table.{tabulated, tabulated-same}
 use Rattle.bits.specs.Bits.{unpack, pack}
+use Rattle.bits.specs.Packed.{unpack-pack, length-pack}
 use Rattle.words.specs.declared.Symbol.{Symbol}
 use Rattle.words.specs.Facts.{byte-of-word, sync0-unknown, sync1-unknown}
 use Rattle.words.specs.Words.{wordOf, byteOf, sync0, sync1}
-use Rattle.merging.specs.Cases.{Binary}
+use Rattle.bits.specs.Binary.{Binary}
 use Rattle.channel.specs.declared.SectionWriter.{SectionWriter}
 use Rattle.section_reader.specs.ReadSay.{readOut, readSay, sectionRead}
 use Rattle.section_reader.specs.Reading.{byteFor, markFor, byteRead, markRead, bytesRead, marksRead}
@@ -26,7 +26,6 @@ use Rattle.channel.specs.State.{right, above, below, levelNow}
 use Rattle.channel.specs.WriteSay.{section, written, writeSay}
 use Rattle.merging.specs.Chosen.{Written}
 use Rattle.sections.specs.Carried.{grown-frames}
-use Rattle.sections.specs.Unpacked.{unpack-pack, length-pack}
 use Rattle.sections.specs.Back.{every-header, every-word}
 
 -- what a reader finds at place i of frame f: the Control byte first, with the SYNCs in place of the first two
@@ -41,14 +40,6 @@ laidBytes frames control = tabulated (λ k. laidByte frames control (k / 33) (k 
 
 unfoldable pub laidMarks : List ℕ
 laidMarks = tabulated (λ k. laidMark (k / 33) (k % 33)) 0 3234
-
--- two rules that agree below n make the same list
-same-table : (f g : ℕ → ℕ) (n : ℕ) → ((k : ℕ) → k < n → f k ≡ g k) → tabulated f 0 n ≡ tabulated g 0 n
-same-table f g n h =
-    ext-getD 0 (tabulated f 0 n) (tabulated g 0 n) (length-tabulated f 0 n ∙ sym (length-tabulated g 0 n))
-    (λ k l.
-    let m : k < n = subst (λ (x : ℕ). k < x) (length-tabulated f 0 n) l in
-    tabulated-at f n k m ∙ h k m ∙ sym (tabulated-at g n k m))
 
 module _ (frames control : List ℕ) (hf : Bytes frames) (hc : Bytes control) where
   byte-back : (f i : ℕ) → byteFor (byteOf (wordAt frames control f i)) ≡ laidByte frames control f i
@@ -78,13 +69,13 @@ module _ (frames control : List ℕ) (hf : Bytes frames) (hc : Bytes control) wh
     pub bytes-back : bytesRead (section s frames control .bits) ≡ laidBytes frames control
     unfolding bytesRead laidBytes
     bytes-back =
-        same-table (byteRead (section s frames control .bits)) (λ k. laidByte frames control (k / 33) (k % 33)) 3234
+        tabulated-same (byteRead (section s frames control .bits)) (λ k. laidByte frames control (k / 33) (k % 33)) 3234
         (λ k h. ap (λ (x : ℕ). byteFor (byteOf x)) (every-word frames control hf hc s (k / 33) (k % 33) (omega arith) (omega arith)) ∙ byte-back (k / 33) (k % 33))
 
     pub marks-back : marksRead (section s frames control .bits) ≡ laidMarks
     unfolding marksRead laidMarks
     marks-back =
-        same-table (markRead (section s frames control .bits)) (λ k. laidMark (k / 33) (k % 33)) 3234
+        tabulated-same (markRead (section s frames control .bits)) (λ k. laidMark (k / 33) (k % 33)) 3234
         (λ k h. ap (λ (x : ℕ). markFor (byteOf x) x (k % 33)) (every-word frames control hf hc s (k / 33) (k % 33) (omega arith) (omega arith)) ∙ mark-back (k / 33) (k % 33))
 
     -- a channel buffer that holds the Section's bits is read back whole

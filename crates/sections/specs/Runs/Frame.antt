@@ -12,7 +12,7 @@ use Rattle.bits.specs.Bits.{bitsOf}
 use Rattle.words.specs.Runs.{runs}
 use Rattle.merging.specs.Agree.{passes, header-agrees, header-passes}
 use Rattle.merging.specs.Automaton.{steps, live, start22}
-use Rattle.merging.specs.Cases.{Binary}
+use Rattle.bits.specs.Binary.{Binary}
 use Rattle.merging.specs.Chosen.{Written, after, dsvAfter, beforeHeader, withWord, withHeader, withTail}
 use Rattle.merging.specs.Places.{Placed, placed-header, placed-whole}
 use Rattle.merging.specs.Ready.{ready}

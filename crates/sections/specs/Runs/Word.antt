@@ -14,7 +14,8 @@ use Rattle.bits.specs.Numbers.{length-bits}
 use Rattle.words.specs.Words.{wordOf, sync0, sync1}
 use Rattle.merging.specs.Agree.{passes, Takes, taken, word-agrees, word-passes, word-ready}
 use Rattle.merging.specs.Automaton.{steps, live}
-use Rattle.merging.specs.Cases.{Binary, binary-append, binary-bits}
+use Rattle.bits.specs.Binary.{Binary}
+use Rattle.bits.specs.Binary.Parts.{binary-append, binary-bits}
 use Rattle.merging.specs.Chosen.{Written, after, dsvAfter, beforeWord, withWord}
 use Rattle.merging.specs.Places.{earlier, Placed, placed-more}
 use Rattle.merging.specs.Ready.{ready}
