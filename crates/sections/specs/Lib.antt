@@ -1,9 +1,9 @@
 pub mod MergingBits
-pub mod Runs
 pub mod Stream
+pub mod Runs
+pub mod Grown
 pub mod Carried
-pub mod Figures
-pub mod Back
-pub mod ThereAndBack
-pub mod Coincide
+pub mod Laid
 pub mod Calls
+pub mod Coincide
+pub mod Figures

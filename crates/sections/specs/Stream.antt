@@ -23,11 +23,15 @@ unfoldable pub streamOf : SectionWriter → List Part → List ℕ
 streamOf s [] = []
 streamOf s (p ∷ ps) = section s (p .frames) (p .control) .bits ++ streamOf (afterSection s (section s (p .frames) (p .control))) ps
 
+-- where a Section begins, after the bits `old`
+abbrev pub atStart : List ℕ → SectionWriter → Written
+atStart old s = record { bits = old; level = levelNow (s .level); plus = above (s .dsv); minus = below (s .dsv) }
+
 -- ---- the same of a writer that asks the rule of Merging bits of all that was ever written, and not of the Section alone
 
 -- the bits `old` and a Section after them
 unfoldable pub sectionAmong : List ℕ → SectionWriter → Part → Written
-sectionAmong old s p = withFrames (record { bits = old; level = levelNow (s .level); plus = above (s .dsv); minus = below (s .dsv) }) (p .frames) (p .control) 0 98
+sectionAmong old s p = withFrames (atStart old s) (p .frames) (p .control) 0 98
 
 -- the bits `old` and Sections after them
 unfoldable pub streamAmong : List ℕ → SectionWriter → List Part → List ℕ

@@ -68,7 +68,7 @@ not-nine n c vs = go (eqb (length (c .part .frames)) 3136 && eqb (length (c .par
 nine-nowhere : (cs : List Call) (n : ℕ) (vs : List ℕ) → List·Memᴰ (refused 9 vs) (says n cs) → ⊥
 unfolding says
 nine-nowhere [] n vs m = List·Memᴰ·not-nil m
-nine-nowhere (c ∷ cs) n vs m = ⊎-elim (not-nine n c vs) (nine-nowhere cs (cond (isDone (sayAfter n c)) (n + 1) n) vs) (List·Memᴰ·cases-cons m)
+nine-nowhere (c ∷ cs) n vs m = ⊎-elim (not-nine n c vs) (nine-nowhere cs _ vs) (List·Memᴰ·cases-cons m)
 
 -- FROM `new()` no call of any run says 9
 pub never-nine : (cs : List Call) (vs : List ℕ) → List·Memᴰ (refused 9 vs) (map (λ t. t .say) (run writes fresh cs)) → ⊥

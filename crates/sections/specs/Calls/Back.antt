@@ -4,26 +4,19 @@ use mathlib.Core.Path.{_≡_, refl, ap, ap₂, _∙_}
 use mathlib.Core.List.{List, [], _∷_, map}
 use Prim.Native.Nat.{ℕ}
 use lib.ListN.{length}
-use Rattle.outcome.specs.Say.{done}
 use Rattle.calls.specs.Step.{Step}
 use Rattle.calls.specs.Calls.{run, doneOf, accepted}
-use Rattle.section_reader.specs.ReadSay.{ReadOut, readOut, sectionRead}
+use Rattle.section_reader.specs.ReadSay.{sectionRead}
 use Rattle.channel.specs.declared.SectionWriter.{SectionWriter}
 use Rattle.channel.specs.WriteSay.{section, afterSection}
 use Rattle.sections.specs.Stream.{Part}
-use Rattle.sections.specs.ThereAndBack.{laidBytes, laidMarks, packed-comes-back}
+use Rattle.sections.specs.Laid.{wholeOf}
+use Rattle.sections.specs.Laid.ThereAndBack.{packed-comes-back}
 use Rattle.sections.specs.Calls.{Call, writes, parts, sectionSteps}
 use Rattle.sections.specs.Calls.Streams.{done-as-stream}
 
--- what a reader answers to the bytes that a step leaves, and what it should answer to a Section of some bytes
-abbrev pub readBack : List ℕ → List ℕ → Step SectionWriter → ReadOut
-readBack bytes marks t = sectionRead (t .out) bytes marks
-
-abbrev pub wholeOf : Part → ReadOut
-wholeOf p = readOut (done []) (laidBytes (p .frames) (p .control)) laidMarks
-
 module _ (bytes marks : List ℕ) (b : length bytes ≡ 3234) (m : length marks ≡ 3234) where
-  steps-come-back : (ps : List Part) (s : SectionWriter) → map (readBack bytes marks) (sectionSteps s ps) ≡ map wholeOf ps
+  steps-come-back : (ps : List Part) (s : SectionWriter) → map (λ t. sectionRead (t .out) bytes marks) (sectionSteps s ps) ≡ map (λ p. wholeOf (p .frames) (p .control)) ps
   unfolding sectionSteps
   steps-come-back [] s = refl
   steps-come-back (p ∷ ps) s =
@@ -31,5 +24,5 @@ module _ (bytes marks : List ℕ) (b : length bytes ≡ 3234) (m : length marks 
       (steps-come-back ps (afterSection s (section s (p .frames) (p .control))))
 
   -- each accepted call's bytes come back, in order
-  pub calls-come-back : (s : SectionWriter) (cs : List Call) → map (readBack bytes marks) (doneOf (run writes s cs)) ≡ map wholeOf (parts (accepted writes s cs))
-  calls-come-back s cs = ap (map (readBack bytes marks)) (done-as-stream cs s) ∙ steps-come-back (parts (accepted writes s cs)) s
+  pub calls-come-back : (s : SectionWriter) (cs : List Call) → map (λ t. sectionRead (t .out) bytes marks) (doneOf (run writes s cs)) ≡ map (λ p. wholeOf (p .frames) (p .control)) (parts (accepted writes s cs))
+  calls-come-back s cs = ap (map (λ (t : Step SectionWriter). sectionRead (t .out) bytes marks)) (done-as-stream cs s) ∙ steps-come-back (parts (accepted writes s cs)) s

@@ -20,7 +20,7 @@ use Rattle.channel.specs.State.{right}
 use Rattle.channel.specs.WriteSay.{section, afterSection, writeSay, written}
 use Rattle.sections.specs.Stream.{Part, streamOf}
 use Rattle.sections.specs.Stream.Rules.{runs-everywhere, headers-at}
-use Rattle.sections.specs.ThereAndBack.{whole}
+use Rattle.sections.specs.Laid.ThereAndBack.{whole}
 use Rattle.sections.specs.Calls.{Call, writes, parts, sectionSteps, outgoing}
 
 -- what holds of a call that is done

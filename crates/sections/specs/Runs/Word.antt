@@ -1,13 +1,11 @@
 -- A word is written where it may come: the run rule goes on, and the next Sync Header's place is 17 bits nearer.
 -- Assumes nothing.
-use mathlib.Core.Path.{_≡_, refl, sym, _∙_, subst}
-use mathlib.Core.Bool.{Bool, true, false, cond}
+use mathlib.Core.Path.{_≡_, sym, _∙_, subst}
 use mathlib.Core.List.{List, _++_, append-assoc}
-use Prim.Native.Nat.{ℕ, zero, suc, _+_, _-_, _*_}
+use Prim.Native.Nat.{ℕ, zero, suc, _+_}
 use native.Mathlib.Omega.{arith}
-use borrow.Author.Tests.{ne-eqb}
-use lib.Dec.{T, eqb}
-use lib.ListN.{length, getD, length-append}
+use lib.Dec.{T}
+use lib.ListN.{length, length-append}
 use Rattle.outcome.specs.Bytes.{Bytes}
 use Rattle.bits.specs.Bits.{bitsOf}
 use Rattle.bits.specs.Numbers.{length-bits}
@@ -23,6 +21,7 @@ use Rattle.merging.specs.Rule.{allowed}
 use Rattle.merging.specs.Taken.{word-taken, sync0-taken, sync1-taken}
 use Rattle.merging.specs.Ties.{Tied, tied-more}
 use Rattle.channel.specs.Section.{wordAt}
+use Rattle.sections.specs.Laid.Words.{at-word}
 use Rattle.sections.specs.MergingBits.{word-three, word-binary}
 use Rattle.sections.specs.Runs.{Running, Ran}
 
@@ -67,14 +66,8 @@ run-word old w s c x r k =
 
 -- a word of a frame may come where a writer stands, the first one after a Sync Header
 pub word-takes : (frames control : List ℕ) (f i s : ℕ) → Bytes frames → Bytes control → T (ready s) → (i ≡ 0 → s ≡ 12) → Takes (bitsOf 14 (wordAt frames control f i)) s
-unfolding wordAt
-word-takes frames control f zero s hf hc t g = at-first (eqb f 0) (eqb f 1)
-  where
-    at-first : (p q : Bool) → Takes (bitsOf 14 (cond p sync0 (cond q sync1 (wordOf (getD control (f - 2) 0))))) s
-    at-first true q = subst (Takes (bitsOf 14 sync0)) (sym (g refl)) (taken (bitsOf 14 sync0) 12 sync0-taken)
-    at-first false true = subst (Takes (bitsOf 14 sync1)) (sym (g refl)) (taken (bitsOf 14 sync1) 12 sync1-taken)
-    at-first false false = taken (bitsOf 14 (wordOf (getD control (f - 2) 0))) s (word-taken (getD control (f - 2) 0) s (hc (f - 2)) t)
-word-takes frames control f (suc i) s hf hc t g =
-    let b = getD frames (32 * f + (suc i - 1)) 0 in
-    let e : wordAt frames control f (suc i) ≡ wordOf b = simp (ne-eqb (suc i) 0 (λ z. omega arith)) in
-    subst (λ (x : ℕ). Takes (bitsOf 14 x) s) (sym e) (taken (bitsOf 14 (wordOf b)) s (word-taken b s (hf (32 * f + (suc i - 1))) t))
+word-takes frames control f i s hf hc t g =
+    at-word frames control hf hc (λ w _. Takes (bitsOf 14 w) s) f i 0 0 (λ x. x)
+    (λ z. subst (Takes (bitsOf 14 sync0)) (sym (g z)) (taken (bitsOf 14 sync0) 12 sync0-taken))
+    (λ z. subst (Takes (bitsOf 14 sync1)) (sym (g z)) (taken (bitsOf 14 sync1) 12 sync1-taken))
+    (λ x h. taken (bitsOf 14 (wordOf x)) s (word-taken x s h t))

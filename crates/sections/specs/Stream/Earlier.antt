@@ -7,21 +7,18 @@ use Rattle.merging.specs.Chosen.{Written}
 use Rattle.merging.specs.Ties.{tied-first}
 use Rattle.channel.specs.declared.SectionWriter.{SectionWriter}
 use Rattle.channel.specs.Section.{withFrames, sectionAfter}
-use Rattle.channel.specs.State.{above, below, levelNow}
 use Rattle.channel.specs.WriteSay.{section, afterSection}
 use Rattle.sections.specs.Runs.{Opens, among}
 use Rattle.sections.specs.Runs.Earlier.{frames-among}
-use Rattle.sections.specs.Stream.{Part, streamOf, sectionAmong, streamAmong}
+use Rattle.sections.specs.Stream.{Part, streamOf, atStart, sectionAmong, streamAmong}
 use Rattle.sections.specs.Stream.Rules.{opens-none, one-section}
 
 -- one Section after the bits `old`
 pub section-among : (old : List ℕ) (s : SectionWriter) (p : Part) → Opens old → sectionAmong old s p ≡ among old (section s (p .frames) (p .control))
 unfolding sectionAmong section sectionAfter
 section-among old s p o =
-    let w : Written = record { bits = []; level = levelNow (s .level); plus = above (s .dsv); minus = below (s .dsv) } in
-    let e : _≡_ {A = Written} (record { bits = old; level = levelNow (s .level); plus = above (s .dsv); minus = below (s .dsv) }) (among old w)
-    = λ i. record { bits = sym (append-nil old) i; level = w .level; plus = w .plus; minus = w .minus } in
-    ap (λ (v : Written). withFrames v (p .frames) (p .control) 0 98) e
+    let w = atStart [] s in
+    ap (λ (bs : List ℕ). withFrames (atStart bs s) (p .frames) (p .control) 0 98) (sym (append-nil old))
     ∙ frames-among (p .frames) (p .control) (p .frames-bytes) (p .control-bytes) old 98 0 w
     (record { own = tied-first; all = subst Opens (sym (append-nil old)) o })
 

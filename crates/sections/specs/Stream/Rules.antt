@@ -17,11 +17,10 @@ use Rattle.merging.specs.Rule.{header, starts}
 use Rattle.merging.specs.Ties.{tied-first}
 use Rattle.channel.specs.declared.SectionWriter.{SectionWriter}
 use Rattle.channel.specs.Section.{sectionAfter}
-use Rattle.channel.specs.State.{above, below, levelNow}
 use Rattle.channel.specs.WriteSay.{section, afterSection}
 use Rattle.sections.specs.Runs.{Opens}
 use Rattle.sections.specs.Runs.Frame.{run-frames}
-use Rattle.sections.specs.Stream.{Part, streamOf}
+use Rattle.sections.specs.Stream.{Part, streamOf, atStart}
 
 -- before anything is written a Sync Header may come
 pub opens-none : Opens []
@@ -33,7 +32,7 @@ pub one-section : (old : List ℕ) (s : SectionWriter) (p : Part) → Opens old 
 unfolding section sectionAfter
 one-section old s p o =
     run-frames (p .frames) (p .control) (p .frames-bytes) (p .control-bytes) old 98 0
-    (record { bits = []; level = levelNow (s .level); plus = above (s .dsv); minus = below (s .dsv) })
+    (atStart [] s)
     (record { own = tied-first; all = subst Opens (sym (append-nil old)) o }) .all
 
 all-sections : (old : List ℕ) (s : SectionWriter) (ps : List Part) → Opens old → Opens (old ++ streamOf s ps)
