@@ -11,6 +11,7 @@ use lib.ListN.{length}
 use Rattle.bits.specs.Bits.{bitsOf, number}
 use Rattle.bits.specs.Binary.{Binary}
 
+-- how many they are
 pub length-bits : (n v : ℕ) → length (bitsOf n v) ≡ n
 length-bits zero v = refl
 length-bits (suc n) v = ap suc (length-bits n v)

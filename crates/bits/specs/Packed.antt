@@ -16,16 +16,19 @@ use Rattle.bits.specs.Binary.{Binary}
 use Rattle.bits.specs.Binary.Parts.{binary-take, binary-drop}
 use Rattle.bits.specs.Numbers.{length-bits, bits-split, bits-join, number-bits, bits-number}
 
+-- eight bits a byte
 pub length-unpack : (xs : List ℕ) → length (unpack xs) ≡ 8 * length xs
 unfolding unpack
 length-unpack [] = refl
 length-unpack (x ∷ xs) = omega (arith, length-append (bitsOf 8 x) (unpack xs), length-unpack xs)
 
+-- the bits of bytes and then bytes
 pub unpack-append : (xs ys : List ℕ) → unpack (xs ++ ys) ≡ unpack xs ++ unpack ys
 unfolding unpack
 unpack-append [] ys = refl
 unpack-append (x ∷ xs) ys = ap (λ (t : List ℕ). bitsOf 8 x ++ t) (unpack-append xs ys) ∙ sym (append-assoc (bitsOf 8 x) (unpack xs) (unpack ys))
 
+-- eight bits fewer for each byte left out
 pub unpack-drop : (i : ℕ) (xs : List ℕ) → drop (8 * i) (unpack xs) ≡ unpack (drop i xs)
 unfolding unpack
 unpack-drop zero xs = refl
@@ -43,6 +46,7 @@ bytes-pass : T (allBelow byte-test 256)
 unfolding byte-test
 bytes-pass = tt
 
+-- bytes that are unpacked and packed are the same bytes
 pub pack-unpack : (xs : List ℕ) → Bytes xs → pack (length xs) (unpack xs) ≡ xs
 unfolding unpack pack byte-test
 pack-unpack [] h = refl
@@ -64,6 +68,7 @@ unpack-pack (suc n) bs p e =
     (unpack-pack n (drop 8 bs) (binary-drop 8 bs p) (omega (arith, length-drop 8 bs)))
     ∙ take-append-drop 8 bs
 
+-- how many bytes there are
 pub length-pack : (n : ℕ) (bs : List ℕ) → length (pack n bs) ≡ n
 unfolding pack
 length-pack zero bs = refl

@@ -28,6 +28,7 @@ pub record Accepted (s : SectionWriter) (c : Call) : Type 0 where
   pub says-done : writes s c .say ≡ done []
   pub not-full : ltb (s .sections) 450000 ≡ true
 
+-- a call is done only where its demands are met
 pub when-done : (s : SectionWriter) (c : Call) → isDone (writes s c .say) ≡ true → Accepted s c
 unfolding written writeSay
 when-done s c e = go (eqb (length (c .part .frames)) 3136 && eqb (length (c .part .control)) 96) (eqb (length (c .out)) 7203) (right s) (ltb (s .sections) 450000) refl refl refl refl e

@@ -44,6 +44,7 @@ grown-then {m} {n} {a} {b} {c} p q =
     two-sums : (x y z u : ℕ) → u ≡ y + z → x + y + z ≡ x + u
     two-sums x y z u e = omega arith
 
+-- a word, after its Merging bits
 pub grown-word : (w : Written) (x : ℕ) → Grown 17 w (withWord w (bitsOf 14 x))
 unfolding withWord
 grown-word w x =
@@ -57,6 +58,7 @@ grown-word w x =
       is = refl;
     }
 
+-- the Merging bits before a Sync Header
 pub grown-tail : (w : Written) → Grown 3 w (withTail w)
 unfolding withTail
 grown-tail w =
@@ -67,6 +69,7 @@ grown-tail w =
       is = refl;
     }
 
+-- some words
 pub grown-words : (ws : List ℕ) (w : Written) → Grown (17 * length ws) w (withWords w ws)
 unfolding withWords
 grown-words [] w = grown-none w
@@ -74,15 +77,18 @@ grown-words (x ∷ ws) w =
     let e : 17 + 17 * length ws ≡ 17 * suc (length ws) = omega arith in
     subst (λ (n : ℕ). Grown n w (withWords (withWord w (bitsOf 14 x)) ws)) e (grown-then (grown-word w x) (grown-words ws (withWord w (bitsOf 14 x))))
 
+-- a Sync Header
 pub grown-header : (w : Written) → Grown 24 w (withHeader w)
 unfolding withHeader
 grown-header w = record { bits = header; long = refl; binary = binary-bits 24 0b100000000001000000000010; is = refl }
 
+-- a Channel Frame
 pub grown-frame : (w : Written) (frames control : List ℕ) (f : ℕ) → Grown 588 w (withFrame w (frameWords frames control f))
 unfolding withFrame frameWords
 grown-frame w frames control f =
     grown-then (grown-then (grown-header w) (grown-words (tabulated (wordAt frames control f) 0 33) (withHeader w))) (grown-tail (withWords (withHeader w) (tabulated (wordAt frames control f) 0 33)))
 
+-- some frames
 pub grown-frames : (n : ℕ) (w : Written) (frames control : List ℕ) (f : ℕ) → Grown (588 * n) w (withFrames w frames control f n)
 unfolding withFrames
 grown-frames zero w frames control f = grown-none w

@@ -24,12 +24,15 @@ field-keep a b p n h =
     ap (λ (l : List ℕ). number 0 (take n l)) (drop-append-le p a b (omega arith))
     ∙ ap (number 0) (take-append-le n (drop p a) b (omega (arith, length-drop p a)))
 
+-- a field stays as it was when more is written after it
 pub keep : {k : ℕ} {w w′ : Written} (g : Grown k w w′) (p n : ℕ) → p + n ≤ length (w .bits) → fieldAt (w′ .bits) p n ≡ fieldAt (w .bits) p n
 keep {k} {w} {w′} g p n h = ap (λ (x : Written). fieldAt (x .bits) p n) (g .is) ∙ field-keep (w .bits) (g .bits) p n h
 
+-- how many bits there are then
 pub grown-long : {k : ℕ} {w w′ : Written} (g : Grown k w w′) → length (w′ .bits) ≡ length (w .bits) + k
 grown-long {k} {w} {w′} g = ap (λ (x : Written). length (x .bits)) (g .is) ∙ length-append (w .bits) (g .bits) ∙ ap (λ (n : ℕ). length (w .bits) + n) (g .long)
 
+-- the last n bits are the number that was written
 pub field-last : (a m : List ℕ) (n v p : ℕ) → p ≡ length a + length m → v < 2 ^ n → fieldAt (a ++ (m ++ bitsOf n v)) p n ≡ v
 field-last a m n v p e h =
     ap (λ (q : ℕ). fieldAt (a ++ (m ++ bitsOf n v)) q n) e
@@ -53,6 +56,7 @@ word-field w x h =
     let dsv = dsvAfter (w .level) (w .plus) (w .minus) (bitsOf 14 x) in
     field-last (w .bits) (beforeWord ok dsv) 14 x (length (w .bits) + 3) (ap (λ (n : ℕ). length (w .bits) + n) (sym (word-three ok dsv))) h
 
+-- word i of some words, after its three Merging bits
 pub words-field : (ws : List ℕ) (w : Written) (i : ℕ) → ((j : ℕ) → j < length ws → getD ws j 0 < 2 ^ 14) → i < length ws
     → fieldAt (withWords w ws .bits) (length (w .bits) + (17 * i + 3)) 14 ≡ getD ws i 0
 unfolding withWords

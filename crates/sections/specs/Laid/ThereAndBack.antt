@@ -43,12 +43,14 @@ module _ (frames control : List ℕ) (hf : Bytes frames) (hc : Bytes control) wh
       (λ x h. ap (λ (t : Symbol). markFor t (wordOf x) i) (byte-of-word x h))
 
   module _ (s : SectionWriter) where
+    -- the bytes that a reader finds in the bits of a Section
     pub bytes-back : bytesRead (section s frames control .bits) ≡ laidBytes frames control
     unfolding bytesRead laidBytes
     bytes-back =
         tabulated-same (byteRead (section s frames control .bits)) (λ k. laidByte frames control (k / 33) (k % 33)) 3234
         (λ k h. ap (λ (x : ℕ). byteFor (byteOf x)) (every-word frames control hf hc s (k / 33) (k % 33) (omega arith) (omega arith)) ∙ byte-back (k / 33) (k % 33))
 
+    -- and the marks
     pub marks-back : marksRead (section s frames control .bits) ≡ laidMarks
     unfolding marksRead laidMarks
     marks-back =

@@ -65,6 +65,7 @@ module _ (frames control : List ℕ) (hf : Bytes frames) (hc : Bytes control) (o
       ∙ ap (after (among old v)) (header-alike old v (n .state) 3 (n .runs-on) dsv)
       ∙ after-among old v (beforeHeader (allowed (v .bits) header) dsv)
 
+  -- some frames
   pub frames-among : (n f : ℕ) (w : Written) → Opening old w → withFrames (among old w) frames control f n ≡ among old (withFrames w frames control f n)
   unfolding withFrames
   frames-among zero f w o = refl

@@ -25,6 +25,7 @@ use Rattle.sections.specs.Runs.{Opening, Running, Ran}
 use Rattle.sections.specs.Runs.Word.{run-word, word-takes, more-own, more-tied, more-placed}
 
 module _ (frames control : List ℕ) (hf : Bytes frames) (hc : Bytes control) where
+  -- some words of a frame
   pub run-words : (old : List ℕ) (f k i : ℕ) (w : Written) (s : ℕ) → Running old w s (17 * k + 3) → (i ≡ 0 → s ≡ 12) → Ran old (withWords w (tabulated (wordAt frames control f) i k)) 3
   unfolding withWords
   run-words old f zero i w s r g = record { state = s; runs-on = r }
@@ -35,6 +36,7 @@ module _ (frames control : List ℕ) (hf : Bytes frames) (hc : Bytes control) wh
 
   -- ---- a frame
 
+  -- a Sync Header is written at its place
   pub run-header : (old : List ℕ) (w : Written) → Opening old w → Running old (withHeader w) 12 564
   unfolding withHeader ready
   run-header old w o =
@@ -70,12 +72,14 @@ module _ (frames control : List ℕ) (hf : Bytes frames) (hc : Bytes control) wh
             };
       })
 
+  -- a whole frame
   pub run-frame : (old : List ℕ) (w : Written) (f : ℕ) → Opening old w → Opening old (withFrame w (frameWords frames control f))
   unfolding withFrame frameWords
   run-frame old w f o =
       let n = run-words old f 33 0 (withHeader w) 12 (run-header old w o) (λ _. refl) in
       run-tail old (withWords (withHeader w) (tabulated (wordAt frames control f) 0 33)) (n .state) (n .runs-on)
 
+  -- some frames
   pub run-frames : (old : List ℕ) (n f : ℕ) (w : Written) → Opening old w → Opening old (withFrames w frames control f n)
   unfolding withFrames
   run-frames old zero f w o = o

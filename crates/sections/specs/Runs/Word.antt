@@ -42,6 +42,7 @@ module _ (old : List ℕ) (w : Written) (s c : ℕ) (r : Running old w s c) wher
       subst (λ (l : List ℕ). Placed l (steps s bs) d) (append-assoc old (w .bits) bs)
       (placed-more (old ++ w .bits) s d bs (subst (Placed (old ++ w .bits) s) (e ∙ sym (earlier-plus (length bs) d)) (r .places)) b t)
 
+-- a word that may come is written, after its Merging bits
 pub run-word : (old : List ℕ) (w : Written) (s c : ℕ) (x : ℕ) → Running old w s (17 + c) → Takes (bitsOf 14 x) s → Ran old (withWord w (bitsOf 14 x)) c
 unfolding withWord
 run-word old w s c x r k =
