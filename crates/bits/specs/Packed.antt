@@ -7,23 +7,28 @@ use Prim.Native.Nat.{ℕ, zero, suc, _+_, _-_, _*_, _/_, _%_, _^_, _<_, _≤_}
 use native.Mathlib.Numerals.{add-one}
 use native.Mathlib.Omega.{arith}
 use lib.Dec.{T, eqb, eqb→eq}
-use lib.ListN.{length, getD, take, drop, length-append}
-use lib.Seq.{take-at, drop-at, drop-append-add, drop-cons, drop-drop, drop-nil}
+use lib.ListN.{length, getD, take, drop, take-append-drop, length-append, length-drop}
+use lib.Seq.{length-take-le, take-at, drop-at, drop-append-add, drop-cons, drop-drop, drop-nil}
 use Rattle.outcome.specs.Bytes.{Bytes}
 use Rattle.outcome.specs.Table.{allBelow, below}
 use Rattle.bits.specs.Bits.{bitsOf, number, unpack, pack}
-use Rattle.bits.specs.Numbers.{length-bits, bits-split, bits-join, number-bits}
+use Rattle.bits.specs.Binary.{Binary}
+use Rattle.bits.specs.Binary.Parts.{binary-take, binary-drop}
+use Rattle.bits.specs.Numbers.{length-bits, bits-split, bits-join, number-bits, bits-number}
 
+-- eight bits a byte
 pub length-unpack : (xs : List ℕ) → length (unpack xs) ≡ 8 * length xs
 unfolding unpack
 length-unpack [] = refl
 length-unpack (x ∷ xs) = omega (arith, length-append (bitsOf 8 x) (unpack xs), length-unpack xs)
 
+-- the bits of bytes and then bytes
 pub unpack-append : (xs ys : List ℕ) → unpack (xs ++ ys) ≡ unpack xs ++ unpack ys
 unfolding unpack
 unpack-append [] ys = refl
 unpack-append (x ∷ xs) ys = ap (λ (t : List ℕ). bitsOf 8 x ++ t) (unpack-append xs ys) ∙ sym (append-assoc (bitsOf 8 x) (unpack xs) (unpack ys))
 
+-- eight bits fewer for each byte left out
 pub unpack-drop : (i : ℕ) (xs : List ℕ) → drop (8 * i) (unpack xs) ≡ unpack (drop i xs)
 unfolding unpack
 unpack-drop zero xs = refl
@@ -41,6 +46,7 @@ bytes-pass : T (allBelow byte-test 256)
 unfolding byte-test
 bytes-pass = tt
 
+-- bytes that are unpacked and packed are the same bytes
 pub pack-unpack : (xs : List ℕ) → Bytes xs → pack (length xs) (unpack xs) ≡ xs
 unfolding unpack pack byte-test
 pack-unpack [] h = refl
@@ -50,6 +56,23 @@ pack-unpack (x ∷ xs) h =
 -- so bytes with the bits bs are the packed bs
 pub packed : (n : ℕ) (xs bs : List ℕ) → Bytes xs → length xs ≡ n → unpack xs ≡ bs → xs ≡ pack n bs
 packed n xs bs h l e = sym (pack-unpack xs h) ∙ ap₂ pack l e
+
+-- and bits that are packed and unpacked are the same bits
+pub unpack-pack : (n : ℕ) (bs : List ℕ) → Binary bs → length bs ≡ 8 * n → unpack (pack n bs) ≡ bs
+unfolding unpack pack
+unpack-pack zero [] p e = refl
+unpack-pack zero (b ∷ bs) p e = absurd (omega arith)
+unpack-pack (suc n) bs p e =
+    let l : length (take 8 bs) ≡ 8 = length-take-le 8 bs (omega arith) in
+    ap₂ _++_ (ap (λ (k : ℕ). bitsOf k (number 0 (take 8 bs))) (sym l) ∙ bits-number (take 8 bs) (binary-take 8 bs p))
+    (unpack-pack n (drop 8 bs) (binary-drop 8 bs p) (omega (arith, length-drop 8 bs)))
+    ∙ take-append-drop 8 bs
+
+-- how many bytes there are
+pub length-pack : (n : ℕ) (bs : List ℕ) → length (pack n bs) ≡ n
+unfolding pack
+length-pack zero bs = refl
+length-pack (suc n) bs = ap suc (length-pack n (drop 8 bs))
 
 -- ---- n bits from bit 8 * i + j on, of the three bytes from byte i on
 

@@ -1,28 +1,16 @@
 -- The Sync Header in two halves of twelve bits.
 -- Assumes nothing.
-use mathlib.Core.Path.{_≡_, refl, ap, ap₂, _∙_}
+use mathlib.Core.Path.{_≡_, ap, ap₂, _∙_}
 use mathlib.Core.Bool.{true, false, not}
-use mathlib.Core.List.{List, [], _∷_, _++_}
-use Prim.Native.Nat.{ℕ, suc, _+_, _*_, _≤_, _<_, _^_}
-use native.Mathlib.Nat.{add-mul, mul-assoc, mul-comm, pow-suc, zero-mul}
+use mathlib.Core.List.{List}
+use Prim.Native.Nat.{ℕ, _+_, _*_, _≤_, _<_, _^_}
 use native.Mathlib.Omega.{arith}
 use borrow.Author.Tests.{eq-eqb, ne-eqb}
 use lib.ListN.{length, take, drop, length-take, length-drop}
 use lib.Seq.{take-add, drop-drop}
+use Rattle.bits.specs.Numbers.{number-append, number-shift}
 use Rattle.bits.specs.Bits.{number}
 use Rattle.section_reader.specs.Reading.{fieldAt, headless}
-
-number-append : (a : ℕ) (x y : List ℕ) → number a (x ++ y) ≡ number (number a x) y
-number-append a [] y = refl
-number-append a (b ∷ x) y = number-append (2 * a + b) x y
-
-number-shift : (bs : List ℕ) (a : ℕ) → number a bs ≡ a * 2 ^ length bs + number 0 bs
-number-shift [] a = omega arith
-number-shift (b ∷ bs) a =
-    let P = 2 ^ length bs in
-    let w : 2 ^ suc (length bs) ≡ P * 2 = pow-suc 2 (length bs) in
-    number-shift bs (2 * a + b)
-    ∙ rw (w, number-shift bs (2 * 0 + b)) (omega (arith, add-mul (2 * a) b P, add-mul (2 * 0) b P, mul-assoc 2 a P, mul-assoc a P 2, mul-comm (a * P) 2, zero-mul P))
 
 -- 24 bits are twice twelve
 halves : (bits : List ℕ) (p : ℕ) → p + 24 ≤ length bits → fieldAt bits p 24 ≡ fieldAt bits p 12 * 4096 + fieldAt bits (p + 12) 12

@@ -1,8 +1,9 @@
-pub mod Runs
+pub mod MergingBits
 pub mod Stream
+pub mod Runs
+pub mod Grown
 pub mod Carried
+pub mod Laid
+pub mod Calls
+pub mod Coincide
 pub mod Figures
-pub mod Back
-pub mod Unpacked
-pub mod ThereAndBack
-pub mod One
