@@ -3,6 +3,7 @@
 -- Assumes nothing.
 use mathlib.Core.Path.{_≡_, refl, ap, subst}
 use mathlib.Core.List.{List, [], _++_, append-nil}
+use mathlib.Core.Logic.{_⊎_, inl, inr}
 use mathlib.Core.Option.{Option, none, some}
 use Prim.Native.Nat.{ℕ, _≤_}
 use native.Mathlib.Omega.{arith}
@@ -52,24 +53,23 @@ circ-correcting =
 
 -- ---- what becomes of a word
 
-module _ (w : List ℕ) (bytes : Bytes w) (short : length w ≤ 255) where
-  -- not marked: the codeword near it
-  pub found-near : lost w ≡ 0 → Near 4 w (corrected w)
-  unfolding lost corrected
-  found-near e = go (nearest 4 w) refl e
-    where
-      go : (o : Option (List ℕ)) → nearest 4 w ≡ o → markOf o ≡ 0 → Near 4 w (handedOn w o)
-      go (some c) p e = nearest-sound 4 w bytes c p
-      go none p e = absurd (omega arith)
+-- the mark of a word: 1 and no codeword is near it, or 0 and what is handed on is near it
+pub judged : (w : List ℕ) → Bytes w → length w ≤ 255 → ((lost w ≡ 1) × ((c : List ℕ) → Near 4 w c → ⊥)) ⊎ ((lost w ≡ 0) × Near 4 w (corrected w))
+unfolding lost corrected
+judged w bytes short = go (nearest 4 w) refl
+  where
+    go : (o : Option (List ℕ)) → nearest 4 w ≡ o → ((markOf o ≡ 1) × ((c : List ℕ) → Near 4 w c → ⊥)) ⊎ ((markOf o ≡ 0) × Near 4 w (handedOn w o))
+    go (some c) p = inr (refl, nearest-sound 4 w bytes c p)
+    go none p = inl (refl, nearest-none 4 w bytes (omega arith) short p)
 
-  -- marked: there is none, and the word is handed on as it came
-  pub lost-none : lost w ≡ 1 → (corrected w ≡ w) × ((c : List ℕ) → Near 4 w c → ⊥)
-  unfolding lost corrected
-  lost-none e = go (nearest 4 w) refl e
-    where
-      go : (o : Option (List ℕ)) → nearest 4 w ≡ o → markOf o ≡ 1 → (handedOn w o ≡ w) × ((c : List ℕ) → Near 4 w c → ⊥)
-      go (some c) p e = absurd (omega arith)
-      go none p e = (refl, nearest-none 4 w bytes (omega arith) short p)
+-- bytes stay bytes
+pub bytes-corrected : (w : List ℕ) → Bytes w → Bytes (corrected w)
+unfolding corrected
+bytes-corrected w bytes = go (nearest 4 w) refl
+  where
+    go : (o : Option (List ℕ)) → nearest 4 w ≡ o → Bytes (handedOn w o)
+    go (some c) p = nearest-sound 4 w bytes c p .bytes
+    go none p = bytes
 
 -- a word keeps its length
 pub length-corrected : (w : List ℕ) → length (corrected w) ≡ length w

@@ -11,7 +11,7 @@ use Rattle.lines.specs.Delay.{total}
 use Rattle.lines.specs.Stream.{back}
 use Rattle.lines.specs.Back.{back-later, back-before}
 use Rattle.lines.specs.Chain.{chainAt}
-use Rattle.circ.specs.Rows.{rowsOfBytes, rowDelay, beforeC2, between, afterC1, readerBeforeC1, readerBetween, readerAfterC2, either}
+use Rattle.circ.specs.Rows.{rowsOfBytes, rowDelay, beforeC2, between, afterC1, readerBeforeC1, readerBetween, readerAfterC2}
 use Rattle.circ.specs.Chains.{writerAt, writerNext, written, c2Word, c1Word, readerAt, readerNext, readerOut, readerDoubt, metC2}
 use Rattle.circ.specs.Codes.{qOf, pOf, corrected, lost}
 use Rattle.circ.specs.CodeLaws.{circ-coding, circ-correcting, length-corrected}
@@ -24,6 +24,11 @@ use Rattle.circ.specs.ThereAndBack as reading
 pub record F1Frames (f : ℕ → List ℕ) : Type 0 where
   pub long : (n : ℕ) → length (f n) ≡ 24
   pub bytes : (n : ℕ) → Bytes (f n)
+
+-- F2-frames: 32 bytes at each step
+pub record F2Frames (g : ℕ → List ℕ) : Type 0 where
+  pub long : (n : ℕ) → length (g n) ≡ 32
+  pub bytes : (n : ℕ) → Bytes (g n)
 
 -- what a fresh writer makes of them at step n
 abbrev pub f2At : (ℕ → List ℕ) → ℕ → List ℕ
@@ -94,7 +99,3 @@ module _ (g : ℕ → List ℕ) (long : (n : ℕ) → length (g n) ≡ 32) where
   pub byte-of-c2 : (b n : ℕ) → b < 24
       → getD (f1At g n) b 0 ≡ back 0 (λ m. getD (corrected (metC2 corrected g m)) (getD rowsOfBytes b 0) 0) (getD readerAfterC2 (getD rowsOfBytes b 0) 0) n
   byte-of-c2 b n h = received.byte-read corrected corrected lost length-corrected length-corrected g long b n h
-
-  -- the doubt mark is set exactly where either of these two words has no codeword near
-  pub doubt-exact : (n : ℕ) → doubtAt g n ≡ either (lost (metC2 corrected g n)) (back 0 (λ m. lost (metC2 corrected g m)) 2 n)
-  doubt-exact n = received.doubt-read corrected corrected lost length-corrected length-corrected g long n

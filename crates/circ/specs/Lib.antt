@@ -18,4 +18,5 @@ pub mod Laws
 pub mod Runs
 pub mod Fresh
 pub mod Damage
+pub mod Doubt
 pub mod Figures

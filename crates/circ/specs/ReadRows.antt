@@ -6,14 +6,15 @@ use Prim.Native.Nat.{ℕ, _+_, _≤_, _<_}
 use native.Mathlib.Omega.{arith}
 use lib.ListN.{length, getD, length-append, List·getD-append}
 use lib.Seq.{length-take-le, getD-append-add}
+use Rattle.outcome.specs.Bytes.{Bytes, bytes-take}
 use Rattle.lines.specs.Stream.{back, outAt}
 use Rattle.lines.specs.Back.{back-same}
-use Rattle.lines.specs.Section.{section-law, length-out}
+use Rattle.lines.specs.Section.{section-law, length-out, bytes-out}
 use Rattle.lines.specs.Chain.{chained}
 use Rattle.lines.specs.Chained.{chain-law}
 use Rattle.circ.specs.Rows.{either, doubt, rowsOfBytes, readerBeforeC1, readerBetween, readerAfterC2, inverted}
 use Rattle.circ.specs.Chains.{throughC1, throughC2, readerRows, readerOut, readerDoubt, readerAt, metC1, metC2}
-use Rattle.circ.specs.Tables.{carries-low, byte-carried, collected-at, length-inverted}
+use Rattle.circ.specs.Tables.{carries-low, byte-carried, collected-at, length-inverted, bytes-inverted}
 
 -- what the steps from fresh give is what goes through the last section
 pub rows-read : (fix₁ fix₂ : List ℕ → List ℕ) (mark : List ℕ → ℕ) (g : ℕ → List ℕ) (n : ℕ)
@@ -21,24 +22,44 @@ pub rows-read : (fix₁ fix₂ : List ℕ → List ℕ) (mark : List ℕ → ℕ
 unfolding readerRows readerAt chained metC1 metC2
 rows-read fix₁ fix₂ mark g n = chain-law readerBeforeC1 readerBetween readerAfterC2 inverted (throughC1 fix₁) (throughC2 fix₂ mark) g n
 
+-- ---- the words that a reader meets
+
+module _ (g : ℕ → List ℕ) (long : (n : ℕ) → length (g n) ≡ 32) where
+  pub length-met-c1 : (n : ℕ) → length (metC1 g n) ≡ 32
+  unfolding metC1
+  length-met-c1 n = length-out readerBeforeC1 (λ m. inverted (g m)) n ∙ length-inverted (g n) (long n)
+
+  pub bytes-met-c1 : ((m : ℕ) → Bytes (g m)) → (n : ℕ) → Bytes (metC1 g n)
+  unfolding metC1 readerBeforeC1
+  bytes-met-c1 bytes n =
+      bytes-out readerBeforeC1 (λ m. inverted (g m)) n (λ m. omega (arith, length-inverted (g m) (long m))) (λ m. bytes-inverted (g m) (bytes m))
+
+  -- C1 changes no word's length
+  module _ (fix₁ : List ℕ → List ℕ) (same₁ : (w : List ℕ) → length (fix₁ w) ≡ length w) where
+    length-through-c1 : (n : ℕ) → length (throughC1 fix₁ (metC1 g n)) ≡ 28
+    unfolding throughC1
+    length-through-c1 n = length-take-le 28 (fix₁ (metC1 g n)) (omega (arith, same₁ (metC1 g n), length-met-c1 n))
+
+    pub length-met-c2 : (n : ℕ) → length (metC2 fix₁ g n) ≡ 28
+    unfolding metC2
+    length-met-c2 n = length-out readerBetween (λ m. throughC1 fix₁ (metC1 g m)) n ∙ length-through-c1 n
+
+    pub bytes-met-c2 : ((m : ℕ) → Bytes (g m)) → ((w : List ℕ) → Bytes w → Bytes (fix₁ w)) → (n : ℕ) → Bytes (metC2 fix₁ g n)
+    unfolding metC2 throughC1 readerBetween
+    bytes-met-c2 bytes keeps n =
+        bytes-out readerBetween (λ m. throughC1 fix₁ (metC1 g m)) n (λ m. omega (arith, length-through-c1 m))
+        (λ m. bytes-take 28 (fix₁ (metC1 g m)) (keeps (metC1 g m) (bytes-met-c1 bytes m)))
+
+-- ---- what it gives
+
 -- the codes change no word's length
 module _ (fix₁ fix₂ : List ℕ → List ℕ) (mark : List ℕ → ℕ) (same₁ : (w : List ℕ) → length (fix₁ w) ≡ length w) (same₂ : (w : List ℕ) → length (fix₂ w) ≡ length w)
     (g : ℕ → List ℕ) (long : (n : ℕ) → length (g n) ≡ 32) where
   abbrev handed : ℕ → List ℕ
   handed n = throughC2 fix₂ mark (metC2 fix₁ g n)
 
-  pub length-met-c1 : (n : ℕ) → length (metC1 g n) ≡ 32
-  unfolding metC1
-  length-met-c1 n = length-out readerBeforeC1 (λ m. inverted (g m)) n ∙ length-inverted (g n) (long n)
-
-  pub length-met-c2 : (n : ℕ) → length (metC2 fix₁ g n) ≡ 28
-  unfolding metC2 throughC1
-  length-met-c2 n =
-      length-out readerBetween (λ m. throughC1 fix₁ (metC1 g m)) n
-      ∙ length-take-le 28 (fix₁ (metC1 g n)) (omega (arith, same₁ (metC1 g n), length-met-c1 n))
-
   length-fixed : (n : ℕ) → length (fix₂ (metC2 fix₁ g n)) ≡ 28
-  length-fixed n = same₂ (metC2 fix₁ g n) ∙ length-met-c2 n
+  length-fixed n = same₂ (metC2 fix₁ g n) ∙ length-met-c2 g long fix₁ same₁ n
 
   wide : (n : ℕ) → length readerAfterC2 ≤ length (handed n)
   unfolding readerAfterC2 throughC2
