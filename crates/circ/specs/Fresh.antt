@@ -15,6 +15,7 @@ use Rattle.circ.specs.Rows.{placed, collected, doubt, beforeC2, between,
 use Rattle.circ.specs.Chains.{withQ, withP, writerOut, writerNext, throughC1, throughC2, readerRows, readerOut, readerDoubt, readerNext}
 use Rattle.circ.specs.Codes.{parity-right, qOf, pOf, corrected, lost}
 use Rattle.circ.specs.CodeLaws.{circ-correcting}
+pub mod Before
 
 -- ---- zeros are the parity of zeros
 

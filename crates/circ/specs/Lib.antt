@@ -19,4 +19,3 @@ pub mod Runs
 pub mod Fresh
 pub mod Damage
 pub mod Doubt
-pub mod Figures
