@@ -19,3 +19,4 @@ pub mod Runs
 pub mod Fresh
 pub mod Damage
 pub mod Doubt
+pub mod Calls
