@@ -1,10 +1,10 @@
--- `circ_reader::mend` meets its contract: each arm is what a verdict gives (`by-verdict`), and a byte to change lies in the word (`inside`).
+-- `circ_reader::codes::mend` meets its contract: each arm is what a verdict gives (`by-verdict`), and a byte to change lies in the word (`inside`).
 -- Assumes nothing.
 use Rattle.codeword.specs.declared.Verdict.the-variants as verdicts
 use Rattle.circ_reader.proofs.Mending.{by-verdict, inside}
 use borrow.Author.Needs.{needs}
-use Rattle.circ_reader.proofs.mend.Statement.{statement}
-use Rattle.circ_reader.proofs.mend.Tie as tie
+use Rattle.circ_reader.proofs.codes.mend.Statement.{statement}
+use Rattle.circ_reader.proofs.codes.mend.Tie as tie
 
 verdict-of-four-requires : tie.Need-verdict-of-four-requires
 verdict-of-four-requires c κs = search needs

@@ -1,4 +1,4 @@
--- `circ_reader::front` meets its contract: a whole copy of the first 28 bytes.
+-- `circ_reader::codes::front` meets its contract: a whole copy of the first 28 bytes.
 -- Assumes nothing.
 use mathlib.Core.Path.{sym}
 use native.Mathlib.Omega.{arith}
@@ -6,8 +6,8 @@ use lib.ListN.{length, take}
 use lib.Seq.{length-take-le}
 use Rattle.outcome.specs.Lengths.{same-lengths}
 use borrow.Author.Needs.{needs}
-use Rattle.circ_reader.proofs.front.Statement.{statement}
-use Rattle.circ_reader.proofs.front.Tie as tie
+use Rattle.circ_reader.proofs.codes.front.Statement.{statement}
+use Rattle.circ_reader.proofs.codes.front.Tie as tie
 
 slice-aggregate-copy : tie.Need-slice-aggregate-copy
 slice-aggregate-copy c = sym (length-take-le 28 (c .before .before .args .w .now) (omega arith))

@@ -1,4 +1,4 @@
--- `circ_reader::pass_c2` meets its contract: the mended word in front of its mark, twice.
+-- `circ_reader::codes::pass_c2` meets its contract: the mended word in front of its mark, twice.
 -- Assumes nothing.
 use Prim.Native.Nat.{ℕ}
 use mathlib.Core.Path.{ap₂, _∙_}
@@ -7,8 +7,8 @@ use lib.ListN.{length}
 use Rattle.outcome.specs.Lengths.{same-lengths}
 use Rattle.circ.specs.Chains.{throughC2}
 use borrow.Author.Needs.{needs}
-use Rattle.circ_reader.proofs.pass_c2.Statement.{statement}
-use Rattle.circ_reader.proofs.pass_c2.Tie as tie
+use Rattle.circ_reader.proofs.codes.pass_c2.Statement.{statement}
+use Rattle.circ_reader.proofs.codes.pass_c2.Tie as tie
 
 slice-aggregate-mend : tie.Need-slice-aggregate-mend
 slice-aggregate-mend c = search needs

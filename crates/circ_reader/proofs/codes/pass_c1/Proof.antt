@@ -1,11 +1,11 @@
--- `circ_reader::pass_c1` meets its contract: the front of the mended word.
+-- `circ_reader::codes::pass_c1` meets its contract: the front of the mended word.
 -- Assumes nothing.
 use mathlib.Core.Path.{ap, _∙_}
 use lib.ListN.{take}
 use Rattle.circ.specs.Chains.{throughC1}
 use borrow.Author.Needs.{needs}
-use Rattle.circ_reader.proofs.pass_c1.Statement.{statement}
-use Rattle.circ_reader.proofs.pass_c1.Tie as tie
+use Rattle.circ_reader.proofs.codes.pass_c1.Statement.{statement}
+use Rattle.circ_reader.proofs.codes.pass_c1.Tie as tie
 
 slice-aggregate-mend : tie.Need-slice-aggregate-mend
 slice-aggregate-mend c = search needs
