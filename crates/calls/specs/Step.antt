@@ -6,6 +6,7 @@ use mathlib.Core.List.{List}
 use Prim.Native.Nat.{ℕ}
 use Rattle.outcome.specs.Say.{Say, done, refused, leaves}
 pub mod Kept
+pub mod Same
 
 pub record Step (S : Type 0) : Type 0 where
   pub say : Say

@@ -1,16 +1,15 @@
 -- The two codes of CIRC (Annex C.7): C2 and C1 are codewords of four sums; reading hands on the codeword near a word, if there is one.
 -- Assumes nothing.
-use mathlib.Core.Path.{_≡_, refl, ap₂, subst}
 use mathlib.Core.List.{List, [], _∷_, _++_, map}
 use mathlib.Core.Option.{Option, none, some}
 use Prim.Native.Nat.{ℕ, zero, suc, _%_}
-use native.Mathlib.Nat.{mod-eq-of-lt}
 use native.Mathlib.Omega.{arith}
-use lib.ListN.{length, take, drop}
+use lib.ListN.{take, drop}
 use Rattle.outcome.specs.Bytes.{Bytes}
 use Rattle.codeword.specs.Nearest.{nearest}
 use Rattle.codeword.specs.Parity.{Parity}
 use Rattle.codeword.specs.ParityExists.{four-exist}
+pub mod Parities
 
 -- each element as a byte: a list of bytes as it is
 unfoldable asBytes : List ℕ → List ℕ
@@ -22,32 +21,12 @@ bytes-as [] i = omega arith
 bytes-as (x ∷ w) zero = omega arith
 bytes-as (x ∷ w) (suc i) = bytes-as w i
 
-as-is : (w : List ℕ) → Bytes w → asBytes w ≡ w
-unfolding asBytes
-as-is [] h = refl
-as-is (x ∷ w) h = ap₂ _∷_ (mod-eq-of-lt (h 0)) (as-is w (λ i. h (suc i)))
-
 -- the parity between a and b: the four bytes that make a codeword there. There is one choice of them (`parity-unique`).
 parity : (a b : List ℕ) → (p : List ℕ) × Parity 4 p (asBytes a ++ (p ++ asBytes b))
 parity a b = four-exist (asBytes a) (asBytes b) (bytes-as a) (bytes-as b)
 
 pub parityBetween : List ℕ → List ℕ → List ℕ
 parityBetween a b = parity a b .0
-
--- the parity of bytes makes a codeword
-pub parity-right : (a b : List ℕ) → Bytes a → Bytes b → Parity 4 (parityBetween a b) (a ++ (parityBetween a b ++ b))
-unfolding parityBetween
-parity-right a b ha hb =
-    subst (λ (t : List ℕ). Parity 4 (parity a b .0) (t ++ (parity a b .0 ++ b))) (as-is a ha)
-    (subst (λ (t : List ℕ). Parity 4 (parity a b .0) (asBytes a ++ (parity a b .0 ++ t))) (as-is b hb) (parity a b .1))
-
-pub four-bytes : (a b : List ℕ) → length (parityBetween a b) ≡ 4
-unfolding parityBetween
-four-bytes a b = parity a b .1 .long
-
-pub bytes-parity : (a b : List ℕ) → Bytes (parityBetween a b)
-unfolding parityBetween
-bytes-parity a b = parity a b .1 .bytes
 
 -- the Q bytes of a C2 word, rows 12 to 15 of its 28
 unfoldable pub qOf : List ℕ → List ℕ

@@ -7,6 +7,7 @@ use lib.Dec.{eqb}
 use lib.ListN.{getD, replicate}
 use Rattle.outcome.specs.Table.{tabulated}
 use Rattle.xor.specs.Lists.{added}
+pub mod Order
 
 -- the bytes of w at these places
 abbrev pub picked : List ℕ → List ℕ → List ℕ

@@ -5,6 +5,7 @@ use mathlib.Core.List.{List, _++_}
 use lib.ListN.{take, drop, replicate}
 use Rattle.lines.specs.Delay.{rowsOut, rowsNext, total}
 use Rattle.lines.specs.Stream.{outAt}
+pub mod Fresh
 
 module _ (d₁ d₂ d₃ : List ℕ) (g₁ g₂ g₃ : List ℕ → List ℕ) where
   -- the lines of each section

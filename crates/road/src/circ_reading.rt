@@ -1,14 +1,14 @@
 // Runs of the CIRC reader.
 ghost use mathlib.Core.Path.{_≡_};
 ghost use lib.ListN.{length, replicate};
-ghost use Rattle.circ.specs.Answers.{readerSay};
+ghost use Rattle.circ_reader.specs.Answers.{readerSay};
 ghost use Rattle.circ.specs.Steps.{reads};
 ghost use Rattle.road.specs.Coded.{coded, lowBytes};
 ghost use Rattle.road.specs.Runs.{run, runs};
 use crate::lending::end_of;
 use crate::lending::put_answer;
-use circ::CircReader;
-use circ::ReaderAnswer;
+use circ_reader::CircReader;
+use circ_reader::ReaderAnswer;
 
 fn code(a: ReaderAnswer) -> u64
     ensures { λ r. ⌜ r ≡ coded (readerSay a) ⌝ }

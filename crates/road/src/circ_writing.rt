@@ -1,14 +1,14 @@
 // Runs of the CIRC writer.
 ghost use mathlib.Core.Path.{_≡_};
 ghost use lib.ListN.{length, replicate};
-ghost use Rattle.circ.specs.Answers.{writerSay};
+ghost use Rattle.circ_writer.specs.Answers.{writerSay};
 ghost use Rattle.circ.specs.Steps.{writes};
 ghost use Rattle.road.specs.Coded.{coded, lowBytes};
 ghost use Rattle.road.specs.Runs.{run, runs};
 use crate::lending::end_of;
 use crate::lending::put_answer;
-use circ::CircWriter;
-use circ::WriterAnswer;
+use circ_writer::CircWriter;
+use circ_writer::WriterAnswer;
 
 fn code(a: WriterAnswer) -> u64
     ensures { λ r. ⌜ r ≡ coded (writerSay a) ⌝ }

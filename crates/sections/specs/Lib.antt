@@ -6,4 +6,3 @@ pub mod Carried
 pub mod Laid
 pub mod Calls
 pub mod Coincide
-pub mod Figures

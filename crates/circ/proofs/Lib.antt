@@ -1,4 +1,0 @@
-mod Copies
-mod Marks
-mod Parities
-mod Mending

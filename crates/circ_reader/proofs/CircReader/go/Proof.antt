@@ -1,0 +1,171 @@
+-- `circ_reader::CircReader::go` meets its contract: three sections over three parts of the store, with C1 and C2 between them, are a step of the chain (`chain-step`);
+-- the frame and its doubt mark are read off the rows at the end.
+-- Assumes nothing.
+use Prim.Native.Nat.{ℕ}
+use mathlib.Core.Path.{_≡_, refl, ap, _∙_}
+use mathlib.Core.List.{List, [], _∷_}
+use native.Mathlib.Omega.{arith}
+use lib.ListN.{length}
+use Rattle.outcome.specs.Say as Say
+use Rattle.outcome.specs.Lengths.{same-lengths}
+use Rattle.lines.specs.Delay.{total}
+use Rattle.lines.specs.Parts.{chain-step}
+use Rattle.circ.specs.Rows.{collected, doubt, readerBeforeC1, readerBetween, readerAfterC2, inverted}
+use Rattle.circ.specs.Chains.{throughC1, throughC2, readerNext, readerRows}
+use Rattle.circ.specs.Codes.{corrected, lost}
+use borrow.Author.Needs.{needs}
+use Rattle.circ_reader.proofs.CircReader.go.Statement.{statement}
+use Rattle.circ_reader.proofs.CircReader.go.Tie as tie
+
+slice-aggregate-copy : tie.Need-slice-aggregate-copy
+slice-aggregate-copy c = search needs
+
+copy-requires : tie.Need-copy-requires
+copy-requires c κs = search needs
+
+invert-requires : tie.Need-invert-requires
+invert-requires c κs = search needs
+
+slice-aggregate-section : tie.Need-slice-aggregate-section
+slice-aggregate-section c = search needs
+
+slice-aggregate-section-2 : tie.Need-slice-aggregate-section-2
+slice-aggregate-section-2 c = search needs
+
+slice-aggregate-section-3 : tie.Need-slice-aggregate-section-3
+slice-aggregate-section-3 c = search needs
+
+section-requires : tie.Need-section-requires
+section-requires c κs = search needs
+
+pass-c1-requires : tie.Need-pass-c1-requires
+pass-c1-requires c κs = search needs
+
+slice-aggregate-section-4 : tie.Need-slice-aggregate-section-4
+slice-aggregate-section-4 c = search needs
+
+slice-aggregate-section-5 : tie.Need-slice-aggregate-section-5
+slice-aggregate-section-5 c = search needs
+
+slice-aggregate-section-6 : tie.Need-slice-aggregate-section-6
+slice-aggregate-section-6 c = search needs
+
+section-requires-2 : tie.Need-section-requires-2
+section-requires-2 c κs = search needs
+
+pass-c2-requires : tie.Need-pass-c2-requires
+pass-c2-requires c κs = search needs
+
+slice-aggregate-section-7 : tie.Need-slice-aggregate-section-7
+slice-aggregate-section-7 c = search needs
+
+slice-aggregate-section-8 : tie.Need-slice-aggregate-section-8
+slice-aggregate-section-8 c = search needs
+
+slice-aggregate-section-9 : tie.Need-slice-aggregate-section-9
+slice-aggregate-section-9 c = search needs
+
+section-requires-3 : tie.Need-section-requires-3
+section-requires-3 c κs = search needs
+
+slice-aggregate-collect : tie.Need-slice-aggregate-collect
+slice-aggregate-collect c = search needs
+
+collect-requires : tie.Need-collect-requires
+collect-requires c κs = search needs
+
+slice-aggregate-copy-2 : tie.Need-slice-aggregate-copy-2
+slice-aggregate-copy-2 c = search needs
+
+copy-requires-2 : tie.Need-copy-requires-2
+copy-requires-2 c κs = search needs
+
+slice-aggregate-answer-by : tie.Need-slice-aggregate-answer-by
+slice-aggregate-answer-by c = search needs
+
+answer-by-requires : tie.Need-answer-by-requires
+answer-by-requires c κs = search needs
+
+same-length : tie.Need-same-length
+same-length c = search needs
+
+-- the store as it comes in
+long : (c : tie.Start) → length (c .args .self .line) ≡ 1554
+long c = search needs
+
+returns : tie.Need-returns
+unfolding readerNext readerRows readerBeforeC1 readerBetween readerAfterC2 total
+returns c =
+    let at-out = c .before .before .before .before in
+    let at-collect = at-out .before .before .before in
+    let at-3 = at-collect .before .before .before .before in
+    let at-c2 = at-3 .before .before .before .before in
+    let at-2 = at-c2 .before .before .before in
+    let at-c1 = at-2 .before .before .before .before in
+    let at-1 = at-c1 .before .before .before in
+    let at-invert = at-1 .before .before .before .before in
+    let at-in = at-invert .before .before in
+    let start = at-in .before .before .before .before .before in
+    let frame = start .args .frame .now in
+    let came = same-lengths (at-in .copy .result) (length frame) 32 _ frame _ (at-in .copy .ensures) (omega arith) in
+    let rows = at-3 .section3 .last .1 .1 .1 .1 .0 in
+    let done =
+    chain-step readerBeforeC1 readerBetween readerAfterC2 inverted (throughC1 corrected) (throughC2 corrected lost) 16 1512 26 1528 refl refl refl refl (start .args .frame .now) (start .args .self .line)
+    (at-1 .section .last .1 .0)
+    (at-2 .section2 .last .1 .0)
+    (at-3 .section3 .last .1 .0)
+    (at-invert .invert .result)
+    (at-1 .section .last .1 .1 .1 .1 .0)
+    (at-c1 .pass-c1 .result)
+    (at-2 .section2 .last .1 .1 .1 .1 .0)
+    (at-c2 .pass-c2 .result)
+    rows
+    (long start)
+    (at-invert .invert .ensures ∙ ap inverted came)
+    (at-1 .section .ensures .0)
+    (at-1 .section .ensures .1)
+    (at-c1 .pass-c1 .ensures)
+    (at-2 .section2 .ensures .0)
+    (at-2 .section2 .ensures .1)
+    (at-c2 .pass-c2 .ensures)
+    (at-3 .section3 .ensures .0)
+    (at-3 .section3 .ensures .1) in
+    record {
+      next-is = done .0;
+      say-is = c .answer-by .ensures ∙ ap (λ (t : List ℕ). Say.done (doubt t ∷ [])) (done .1);
+      out-is =
+          same-lengths (at-out .copy2 .result) (length (at-collect .collect .result)) (length (start .args .out .now)) _ (at-collect .collect .result) _ (at-out .copy2 .ensures)
+          (ap length (at-collect .collect .ensures) ∙ omega arith)
+          ∙ at-collect .collect .ensures
+          ∙ ap collected (done .1);
+    }
+
+pub go-spec : {M : Type 1} → statement M
+go-spec =
+    tie.close
+    (tie.spec
+    slice-aggregate-copy
+    copy-requires
+    invert-requires
+    slice-aggregate-section
+    slice-aggregate-section-2
+    slice-aggregate-section-3
+    section-requires
+    pass-c1-requires
+    slice-aggregate-section-4
+    slice-aggregate-section-5
+    slice-aggregate-section-6
+    section-requires-2
+    pass-c2-requires
+    slice-aggregate-section-7
+    slice-aggregate-section-8
+    slice-aggregate-section-9
+    section-requires-3
+    slice-aggregate-collect
+    collect-requires
+    slice-aggregate-copy-2
+    copy-requires-2
+    slice-aggregate-answer-by
+    answer-by-requires
+    same-length
+    returns)

@@ -1,0 +1,138 @@
+// The CIRC reader (clause 17, Annex C): F2-frames of 32 bytes become F1-frames of 24 again. Its state is the bytes and marks that wait, all in one flat store.
+ghost use mathlib.Core.Path.{_≡_};
+ghost use mathlib.Core.List.{[], _∷_};
+ghost use Prim.Native.Nat.{_≤_};
+ghost use lib.ListN.{length, replicate};
+ghost use Rattle.outcome.specs.Say.{done};
+ghost use Rattle.circ.specs.Rows.{collected, doubt};
+ghost use Rattle.circ_reader.specs.Answers.{readerSay};
+ghost use Rattle.calls.specs.Step.{step};
+ghost use Rattle.circ.specs.Steps.{reads};
+ghost use Rattle.circ_reader.specs.Reading.{ReaderGone};
+
+mod codes;
+mod waits;
+
+use codes::pass_c1;
+use codes::pass_c2;
+use waits::AFTER_C2;
+use waits::BEFORE_C1;
+use waits::BETWEEN;
+
+// 16 bytes wait before C1, 1,512 between C1 and C2, and 24 bytes and two marks after C2.
+pub struct CircReader {
+    pub line: [u8; 1554],
+}
+
+// The 24 bytes are sure, or in doubt because a C2 word that they came from had no codeword near.
+pub enum ReaderAnswer {
+    Sure,
+    InDoubt,
+    WrongIncoming,
+    WrongOutgoing,
+}
+
+pub struct ReaderStep {
+    pub next: CircReader,
+    pub answer: ReaderAnswer,
+}
+
+// The F1-frame in the rows.
+fn collect(rows: &[u8]) -> [u8; 24]
+    requires { ⌜ 28 ≤ length (now rows) ⌝ }
+    ensures { λ r. ⌜ r ≡ collected (now (rows .entry)) ⌝ }
+{
+    [
+        rows[0],
+        rows[1],
+        rows[6],
+        rows[7],
+        rows[16],
+        rows[17],
+        rows[22],
+        rows[23],
+        rows[2],
+        rows[3],
+        rows[8],
+        rows[9],
+        rows[18],
+        rows[19],
+        rows[24],
+        rows[25],
+        rows[4],
+        rows[5],
+        rows[10],
+        rows[11],
+        rows[20],
+        rows[21],
+        rows[26],
+        rows[27],
+    ]
+}
+
+// Whether either of the two marks is set.
+fn answer_by(rows: &[u8]) -> ReaderAnswer
+    requires { ⌜ length (now rows) ≡ 30 ⌝ }
+    ensures { λ r. ⌜ readerSay r ≡ done (doubt (now (rows .entry)) ∷ []) ⌝ }
+{
+    if rows[28] != 0 {
+        return ReaderAnswer::InDoubt;
+    }
+    if rows[29] != 0 {
+        return ReaderAnswer::InDoubt;
+    }
+    ReaderAnswer::Sure
+}
+
+impl CircReader {
+    // As if the F2-frames of endless zero F1-frames had gone before.
+    pub fn new() -> Self
+        ensures { λ r. ⌜ r .line ≡ replicate 1554 0 ⌝ }
+    {
+        CircReader { line: [0u8; 1554] }
+    }
+
+    // The step where both lengths are right.
+    fn go(self, frame: &[u8], out: &mut [u8]) -> ReaderStep
+        requires { ⌜ (length (now frame) ≡ 32) × (length (now out) ≡ 24) ⌝ }
+        ensures { λ r. ⌜ ReaderGone (self .line) (now (frame .entry)) (r .next .line) (readerSay (r .answer)) (now (out .exit)) ⌝ }
+    {
+        let mut line = self.line;
+        let mut f2 = [0u8; 32];
+        outcome::copy(frame, &mut f2);
+        let mut c1 = circ::invert(f2);
+        lines::section(&BEFORE_C1, &mut line, 0, 16, &mut c1);
+        let mut c2 = pass_c1(c1);
+        lines::section(&BETWEEN, &mut line, 16, 1512, &mut c2);
+        let mut rows = pass_c2(c2);
+        lines::section(&AFTER_C2, &mut line, 1528, 26, &mut rows);
+        let f1 = collect(&rows);
+        outcome::copy(&f1, out);
+        let answer = answer_by(&rows);
+        ReaderStep {
+            next: CircReader { line },
+            answer,
+        }
+    }
+
+    // A refused step hands back the state as it was.
+    fn refuse(self, answer: ReaderAnswer) -> ReaderStep
+        ensures { λ r. ⌜ (r .next ≡ self) × (r .answer ≡ answer) ⌝ }
+    {
+        ReaderStep { next: self, answer }
+    }
+
+    // An F2-frame of 32 bytes in, an F1-frame of 24 out, sure or in doubt.
+    pub fn step(self, frame: &[u8], out: &mut [u8]) -> ReaderStep
+        ensures { λ r. ⌜ step (readerSay (r .answer)) (r .next .line) (now (out .exit)) ≡ reads (self .line) (now (frame .entry)) (now (out .entry)) ⌝ }
+    {
+        if frame.len() != 32 {
+            outcome::wipe(out, 24);
+            return self.refuse(ReaderAnswer::WrongIncoming);
+        }
+        if out.len() != 24 {
+            return self.refuse(ReaderAnswer::WrongOutgoing);
+        }
+        self.go(frame, out)
+    }
+}

@@ -1,0 +1,15 @@
+pub mod Coding
+pub mod CodeLaws
+pub mod Tables
+pub mod Words
+pub mod Writing
+pub mod Written
+pub mod ReadRows
+pub mod Mended
+pub mod ThereAndBack
+pub mod Laws
+pub mod Runs
+pub mod Fresh
+pub mod Damage
+pub mod Doubt
+pub mod Calls
