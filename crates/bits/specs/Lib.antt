@@ -1,3 +1,4 @@
 pub mod Bits
+pub mod Binary
 pub mod Numbers
 pub mod Packed

@@ -7,12 +7,14 @@ use Prim.Native.Nat.{ℕ, zero, suc, _+_, _-_, _*_, _/_, _%_, _^_, _<_, _≤_}
 use native.Mathlib.Numerals.{add-one}
 use native.Mathlib.Omega.{arith}
 use lib.Dec.{T, eqb, eqb→eq}
-use lib.ListN.{length, getD, take, drop, length-append}
-use lib.Seq.{take-at, drop-at, drop-append-add, drop-cons, drop-drop, drop-nil}
+use lib.ListN.{length, getD, take, drop, take-append-drop, length-append, length-drop}
+use lib.Seq.{length-take-le, take-at, drop-at, drop-append-add, drop-cons, drop-drop, drop-nil}
 use Rattle.outcome.specs.Bytes.{Bytes}
 use Rattle.outcome.specs.Table.{allBelow, below}
 use Rattle.bits.specs.Bits.{bitsOf, number, unpack, pack}
-use Rattle.bits.specs.Numbers.{length-bits, bits-split, bits-join, number-bits}
+use Rattle.bits.specs.Binary.{Binary}
+use Rattle.bits.specs.Binary.Parts.{binary-take, binary-drop}
+use Rattle.bits.specs.Numbers.{length-bits, bits-split, bits-join, number-bits, bits-number}
 
 pub length-unpack : (xs : List ℕ) → length (unpack xs) ≡ 8 * length xs
 unfolding unpack
@@ -50,6 +52,22 @@ pack-unpack (x ∷ xs) h =
 -- so bytes with the bits bs are the packed bs
 pub packed : (n : ℕ) (xs bs : List ℕ) → Bytes xs → length xs ≡ n → unpack xs ≡ bs → xs ≡ pack n bs
 packed n xs bs h l e = sym (pack-unpack xs h) ∙ ap₂ pack l e
+
+-- and bits that are packed and unpacked are the same bits
+pub unpack-pack : (n : ℕ) (bs : List ℕ) → Binary bs → length bs ≡ 8 * n → unpack (pack n bs) ≡ bs
+unfolding unpack pack
+unpack-pack zero [] p e = refl
+unpack-pack zero (b ∷ bs) p e = absurd (omega arith)
+unpack-pack (suc n) bs p e =
+    let l : length (take 8 bs) ≡ 8 = length-take-le 8 bs (omega arith) in
+    ap₂ _++_ (ap (λ (k : ℕ). bitsOf k (number 0 (take 8 bs))) (sym l) ∙ bits-number (take 8 bs) (binary-take 8 bs p))
+    (unpack-pack n (drop 8 bs) (binary-drop 8 bs p) (omega (arith, length-drop 8 bs)))
+    ∙ take-append-drop 8 bs
+
+pub length-pack : (n : ℕ) (bs : List ℕ) → length (pack n bs) ≡ n
+unfolding pack
+length-pack zero bs = refl
+length-pack (suc n) bs = ap suc (length-pack n (drop 8 bs))
 
 -- ---- n bits from bit 8 * i + j on, of the three bytes from byte i on
 

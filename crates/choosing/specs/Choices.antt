@@ -18,6 +18,7 @@ use Rattle.choosing.specs.declared.trace.Trace.{Trace}
 use Rattle.choosing.specs.Symbols.{bitsAt}
 use Rattle.choosing.specs.Traces.{tallyAfter, traceAfter, tallyDsv, light, fits}
 pub mod Rows
+pub mod Digits
 
 -- the Merging bits before a word
 abbrev pub beforeNextWord : Trace → List ℕ → List ℕ

@@ -14,3 +14,8 @@ symbols = words ++ (sync0 ∷ sync1 ∷ [])
 -- the 14 bits of symbol k
 abbrev pub bitsAt : ℕ → List ℕ
 bitsAt k = bitsOf 14 (getD symbols k 0)
+
+-- the words of some symbols
+unfoldable pub wordsOf : List ℕ → List ℕ
+wordsOf [] = []
+wordsOf (k ∷ ks) = getD symbols k 0 ∷ wordsOf ks

@@ -44,3 +44,9 @@ pub record Light (t : Tally) : Type 0 where
 pub record Fit (t : Trace) : Type 0 where
   pub state : t .run < 22
   pub room : Light (t .tally)
+
+-- the level is one, and neither count is above n
+pub record Within (n : ℕ) (t : Tally) : Type 0 where
+  pub level-low : t .level ≤ 1
+  pub plus-low : t .plus ≤ n
+  pub minus-low : t .minus ≤ n

@@ -1,12 +1,11 @@
--- A fact of each number below a bound, given one by one; and lists of the bits 0 and 1.
+-- A fact of each number below a bound, given one by one; and, from `bits`, lists of the bits 0 and 1.
 -- Assumes nothing.
 use mathlib.Core.Path.{_≡_, sym, subst}
 use mathlib.Core.Logic.{_⊎_, inl, inr}
-use mathlib.Core.List.{List, [], _∷_, _++_}
 use Prim.Native.Nat.{ℕ, zero, suc, _<_}
 use native.Mathlib.Nat.{not-suc-le-zero, le-of-suc-le-suc, eq-or-lt-of-le}
-use native.Mathlib.Omega.{arith}
-use Rattle.bits.specs.Bits.{bitsOf}
+pub use Rattle.bits.specs.Binary.{Binary}
+pub use Rattle.bits.specs.Binary.Parts.{binary-append, binary-bits}
 
 -- P (n - 1), .., P 0
 abbrev pub Each : (ℕ → Type 0) → ℕ → Type 0
@@ -20,16 +19,3 @@ case P (suc n) e k h = go (eq-or-lt-of-le (le-of-suc-le-suc h)) (case P n (e .1)
     go : (k ≡ n) ⊎ (k < n) → (k < n → P k) → P k
     go (inl q) g = subst P (sym q) (e .0)
     go (inr l) g = g l
-
--- each element is 0 or 1
-abbrev pub Binary : List ℕ → Type 0
-Binary [] = Unit {0}
-Binary (b ∷ bs) = (b < 2) × Binary bs
-
-pub binary-append : (a b : List ℕ) → Binary a → Binary b → Binary (a ++ b)
-binary-append [] b p q = q
-binary-append (x ∷ a) b p q = (p .0, binary-append a b (p .1) q)
-
-pub binary-bits : (n v : ℕ) → Binary (bitsOf n v)
-binary-bits zero v = tt
-binary-bits (suc n) v = (omega arith, binary-bits n v)

@@ -1,14 +1,18 @@
--- What the tests on a trace say.
+-- What the tests on a trace say, and how much a tally grows.
 -- Assumes nothing.
 use mathlib.Core.Path.{_≡_}
+use mathlib.Core.List.{List}
 use mathlib.Core.Bool.{true, _&&_}
-use Prim.Native.Nat.{_^_}
+use Prim.Native.Nat.{ℕ, _+_, _<_, _^_}
+use native.Mathlib.Omega.{arith}
 use borrow.Author.Tests.{lt-ltb, le-leb}
 use lib.Dec.{leb, ltb, leb→le, ltb→lt}
+use lib.ListN.{length}
 use Rattle.outcome.specs.Table.{and-left, and-right, of-true, true-of}
+use Rattle.merging.specs.Traces.{ups-downs, level-le}
 use Rattle.choosing.specs.declared.Tally.{Tally}
 use Rattle.choosing.specs.declared.trace.Trace.{Trace}
-use Rattle.choosing.specs.Traces.{light, fits, Light, Fit}
+use Rattle.choosing.specs.Traces.{tallyAfter, light, fits, Light, Fit, Within}
 
 pub light-room : (t : Tally) → light t ≡ true → Light t
 unfolding light
@@ -37,3 +41,17 @@ fits-fit t e =
 pub fit-fits : (t : Trace) → Fit t → fits t ≡ true
 unfolding fits
 fit-fits t f = simp (lt-ltb (t .run) 22 (f .state), room-light (t .tally) (f .room))
+
+-- counts that are not above n have room while n has
+pub within-light : {n : ℕ} {t : Tally} → Within n t → n < 2 ^ 60 → Light t
+within-light w h = record { level-low = w .level-low; plus-low = omega (arith, w .plus-low); minus-low = omega (arith, w .minus-low) }
+
+-- each bit adds to one count
+pub within-after : {n : ℕ} {t : Tally} → Within n t → (bs : List ℕ) → Within (n + length bs) (tallyAfter t bs)
+within-after {n} {t} w bs =
+    let total = ups-downs (t .level) bs (w .level-low) in
+    record {
+      level-low = level-le (t .level) bs (w .level-low);
+      plus-low = omega (arith, w .plus-low, total);
+      minus-low = omega (arith, w .minus-low, total);
+    }
