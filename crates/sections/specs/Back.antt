@@ -20,11 +20,11 @@ use Rattle.words.specs.Words.{wordOf, sync0, sync1}
 use Rattle.merging.specs.Agree.{word-keeps}
 use Rattle.merging.specs.Chosen.{Written, dsvAfter, beforeWord, withWord, withHeader, withTail}
 use Rattle.merging.specs.Rule.{allowed}
-use Rattle.channel.specs.declared.SectionWriter.{SectionWriter}
+use Rattle.section_writer.specs.declared.SectionWriter.{SectionWriter}
 use Rattle.section_reader.specs.Reading.{fieldAt, headless, firstHeadless, wordRead}
-use Rattle.channel.specs.Section.{wordAt, frameWords, withWords, withFrame, withFrames, sectionAfter}
-use Rattle.channel.specs.State.{above, below, levelNow}
-use Rattle.channel.specs.WriteSay.{section}
+use Rattle.section_writer.specs.Section.{wordAt, frameWords, withWords, withFrame, withFrames, sectionAfter}
+use Rattle.section_writer.specs.State.{above, below, levelNow}
+use Rattle.section_writer.specs.WriteSay.{section}
 use Rattle.sections.specs.Carried.{Grown, grown-word, grown-words, grown-header, grown-tail, grown-frame, grown-frames}
 
 -- ---- fields of what is written

@@ -19,11 +19,11 @@ use Rattle.merging.specs.Cases.{Binary, binary-append, binary-bits}
 use Rattle.merging.specs.Chosen.{Written, after, dsvAfter, beforeWord, beforeHeader, withWord, withHeader, withTail, m100, m000}
 use Rattle.merging.specs.Dsv.{levelAfter, ups, downs}
 use Rattle.merging.specs.Rule.{header, allowed}
-use Rattle.merging.specs.Traces.{ups-downs, level-append, ups-append, downs-append}
-use Rattle.channel.specs.declared.SectionWriter.{SectionWriter}
-use Rattle.channel.specs.Section.{wordAt, frameWords, withWords, withFrame, withFrames, sectionAfter}
-use Rattle.channel.specs.State.{fresh, right, levelRight, above, below, levelNow, levelThen}
-use Rattle.channel.specs.WriteSay.{section, afterSection}
+use Rattle.merging.specs.Levels.{ups-downs, level-append, ups-append, downs-append}
+use Rattle.section_writer.specs.declared.SectionWriter.{SectionWriter}
+use Rattle.section_writer.specs.Section.{wordAt, frameWords, withWords, withFrame, withFrames, sectionAfter}
+use Rattle.section_writer.specs.State.{fresh, right, levelRight, above, below, levelNow, levelThen}
+use Rattle.section_writer.specs.WriteSay.{section, afterSection}
 
 -- w′ is w and n bits more
 pub record Grown (n : ℕ) (w w′ : Written) : Type 0 where

@@ -3,10 +3,10 @@
 use mathlib.Core.Path.{_≡_, refl}
 use Rattle.section_reader.specs.declared.SectionRead.{SectionRead}
 use Rattle.section_reader.specs.declared.SectionRead.the-variants as reads
-use Rattle.channel.specs.declared.SectionWritten.{SectionWritten}
-use Rattle.channel.specs.declared.SectionWritten.the-variants as writes
+use Rattle.section_writer.specs.declared.SectionWritten.{SectionWritten}
+use Rattle.section_writer.specs.declared.SectionWritten.the-variants as writes
 use Rattle.section_reader.specs.ReadSay.{sayRead}
-use Rattle.channel.specs.WriteSay.{sayWritten}
+use Rattle.section_writer.specs.WriteSay.{sayWritten}
 
 pub written-one : (a b : SectionWritten) → sayWritten a ≡ sayWritten b → a ≡ b
 written-one writes.Done writes.Done e = refl

@@ -23,7 +23,7 @@ use Rattle.merging.specs.Ready.{ready}
 use Rattle.merging.specs.Rule.{header, allowed}
 use Rattle.merging.specs.Taken.{word-taken, sync0-taken, sync1-taken, header-taken}
 use Rattle.merging.specs.Ties.{Tied, tied-more, tied-header, steps-append, live-first}
-use Rattle.channel.specs.Section.{wordAt, frameWords, withWords, withFrame, withFrames}
+use Rattle.section_writer.specs.Section.{wordAt, frameWords, withWords, withFrame, withFrames}
 
 -- ---- a Sync Header may follow
 

@@ -16,10 +16,10 @@ use Rattle.words.specs.Runs.{runs}
 use Rattle.merging.specs.Places.{placed, placed-first}
 use Rattle.merging.specs.Rule.{header, starts}
 use Rattle.merging.specs.Ties.{tied-first}
-use Rattle.channel.specs.declared.SectionWriter.{SectionWriter}
-use Rattle.channel.specs.Section.{sectionAfter}
-use Rattle.channel.specs.State.{above, below, levelNow}
-use Rattle.channel.specs.WriteSay.{section, afterSection}
+use Rattle.section_writer.specs.declared.SectionWriter.{SectionWriter}
+use Rattle.section_writer.specs.Section.{sectionAfter}
+use Rattle.section_writer.specs.State.{above, below, levelNow}
+use Rattle.section_writer.specs.WriteSay.{section, afterSection}
 use Rattle.sections.specs.Runs.{Opens, run-frames}
 
 -- what a Section is made of

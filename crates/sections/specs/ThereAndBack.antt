@@ -18,12 +18,12 @@ use Rattle.words.specs.declared.Symbol.{Symbol}
 use Rattle.words.specs.Facts.{byte-of-word, sync0-unknown, sync1-unknown}
 use Rattle.words.specs.Words.{wordOf, byteOf, sync0, sync1}
 use Rattle.merging.specs.Cases.{Binary}
-use Rattle.channel.specs.declared.SectionWriter.{SectionWriter}
+use Rattle.section_writer.specs.declared.SectionWriter.{SectionWriter}
 use Rattle.section_reader.specs.ReadSay.{readOut, readSay, sectionRead}
 use Rattle.section_reader.specs.Reading.{byteFor, markFor, byteRead, markRead, bytesRead, marksRead}
-use Rattle.channel.specs.Section.{wordAt, withFrames, sectionAfter}
-use Rattle.channel.specs.State.{right, above, below, levelNow}
-use Rattle.channel.specs.WriteSay.{section, written, writeSay}
+use Rattle.section_writer.specs.Section.{wordAt, withFrames, sectionAfter}
+use Rattle.section_writer.specs.State.{right, above, below, levelNow}
+use Rattle.section_writer.specs.WriteSay.{section, written, writeSay}
 use Rattle.merging.specs.Chosen.{Written}
 use Rattle.sections.specs.Carried.{grown-frames}
 use Rattle.sections.specs.Unpacked.{unpack-pack, length-pack}
