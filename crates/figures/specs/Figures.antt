@@ -19,7 +19,7 @@ use Rattle.words.specs.Words.{words, wordOf, sync0, sync1}
 use Rattle.merging.specs.Automaton.{step, steps, live, shown}
 use Rattle.merging.specs.Chosen.{Written, after, withHeader, m100, m010, m001, m000}
 use Rattle.merging.specs.Rule.{header, headers, allowed}
-use Rattle.channel.specs.State.{fresh, beginning}
+use Rattle.section_writer.specs.State.{fresh, beginning}
 
 -- a figure: what the definitions give, and what document 01 says
 pub record Figure : Type 1 where

@@ -7,6 +7,5 @@ pub mod Ties
 pub mod Ready
 pub mod Taken
 pub mod Agree
-pub mod Traces
-pub mod Profiles
+pub mod Levels
 pub mod Places

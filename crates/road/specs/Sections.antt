@@ -6,7 +6,7 @@ use mathlib.Core.List.{List}
 use Prim.Native.Nat.{ℕ}
 use lib.IntN.{ℤ}
 use Rattle.outcome.specs.Say.{Say}
-use Rattle.channel.specs.declared.SectionWriter.{SectionWriter}
+use Rattle.section_writer.specs.declared.SectionWriter.{SectionWriter}
 use Rattle.calls.specs.Step.{Step, step}
 use Rattle.section_reader.specs.ReadSay.{ReadOut, readOut}
 use Rattle.road.specs.Coded.{coded}

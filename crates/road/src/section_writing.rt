@@ -1,11 +1,11 @@
 // Writing a Section. The state is three numbers, so that a caller can hold it and begin with any.
 ghost use mathlib.Core.Path.{_≡_};
-ghost use Rattle.channel.specs.State.{fresh};
-ghost use Rattle.channel.specs.WriteSay.{sayWritten, written};
+ghost use Rattle.section_writer.specs.State.{fresh};
+ghost use Rattle.section_writer.specs.WriteSay.{sayWritten, written};
 ghost use Rattle.road.specs.Coded.{coded};
 ghost use Rattle.road.specs.Sections.{WriteTold};
-use channel::SectionWriter;
-use channel::SectionWritten;
+use section_writer::SectionWriter;
+use section_writer::SectionWritten;
 
 fn code(a: SectionWritten) -> u64
     ensures { λ r. ⌜ r ≡ coded (sayWritten a) ⌝ }

@@ -8,8 +8,8 @@ use lib.ListN.{length}
 use Rattle.outcome.specs.Say.{Say, done, demand}
 use Rattle.calls.specs.Step.{Step, step, isDone}
 use Rattle.bits.specs.Bits.{pack}
-use Rattle.channel.specs.declared.SectionWriter.{SectionWriter}
-use Rattle.channel.specs.WriteSay.{section, afterSection, written}
+use Rattle.section_writer.specs.declared.SectionWriter.{SectionWriter}
+use Rattle.section_writer.specs.WriteSay.{section, afterSection, written}
 use Rattle.sections.specs.Stream.{Part}
 pub mod Streams
 pub mod Answers

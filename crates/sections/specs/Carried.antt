@@ -13,10 +13,10 @@ use Rattle.outcome.specs.First.{lt-or-le}
 use Rattle.outcome.specs.Table.{and-right, of-true}
 use Rattle.merging.specs.Chosen.{Written}
 use Rattle.merging.specs.Dsv.{ups, downs}
-use Rattle.merging.specs.Traces.{ups-downs}
-use Rattle.channel.specs.declared.SectionWriter.{SectionWriter}
-use Rattle.channel.specs.State.{fresh, right, levelRight, above, below, levelNow, levelThen}
-use Rattle.channel.specs.WriteSay.{section, afterSection}
+use Rattle.merging.specs.Levels.{ups-downs}
+use Rattle.section_writer.specs.declared.SectionWriter.{SectionWriter}
+use Rattle.section_writer.specs.State.{fresh, right, levelRight, above, below, levelNow, levelThen}
+use Rattle.section_writer.specs.WriteSay.{section, afterSection}
 use Rattle.sections.specs.Stream.{atStart}
 use Rattle.sections.specs.Grown.Section.{grown-section}
 

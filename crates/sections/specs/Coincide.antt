@@ -7,11 +7,11 @@ use Prim.Native.Nat.{ℕ}
 use lib.Dec.{eqb}
 use Rattle.outcome.specs.Say.{Say, done, refused}
 use Rattle.calls.specs.Step.{Step, step}
-use Rattle.channel.specs.declared.SectionStep.{SectionStep}
-use Rattle.channel.specs.declared.SectionWriter.{SectionWriter}
-use Rattle.channel.specs.declared.SectionWritten.{SectionWritten}
-use Rattle.channel.specs.declared.SectionWritten.the-variants.{Done, WrongIncoming, WrongOutgoing, ImpossibleState, DiscFull}
-use Rattle.channel.specs.WriteSay.{sayWritten, written}
+use Rattle.section_writer.specs.declared.SectionStep.{SectionStep}
+use Rattle.section_writer.specs.declared.SectionWriter.{SectionWriter}
+use Rattle.section_writer.specs.declared.SectionWritten.{SectionWritten}
+use Rattle.section_writer.specs.declared.SectionWritten.the-variants.{Done, WrongIncoming, WrongOutgoing, ImpossibleState, DiscFull}
+use Rattle.section_writer.specs.WriteSay.{sayWritten, written}
 
 -- the answer that says so
 answer : Say → SectionWritten

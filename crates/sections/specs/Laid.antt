@@ -10,7 +10,7 @@ use Rattle.outcome.specs.Say.{done}
 use Rattle.outcome.specs.Table.{tabulated}
 use Rattle.section_reader.specs.ReadSay.{ReadOut, readOut}
 use Rattle.section_reader.specs.Reading.{fieldAt}
-use Rattle.channel.specs.Section.{wordAt}
+use Rattle.section_writer.specs.Section.{wordAt}
 pub mod Words
 pub mod Fields
 pub mod Frames

@@ -4,10 +4,10 @@ use mathlib.Core.List.{List, [], _∷_, _++_}
 use Prim.Native.Nat.{ℕ}
 use Rattle.outcome.specs.Bytes.{Bytes}
 use Rattle.merging.specs.Chosen.{Written}
-use Rattle.channel.specs.declared.SectionWriter.{SectionWriter}
-use Rattle.channel.specs.Section.{withFrames}
-use Rattle.channel.specs.State.{above, below, levelNow}
-use Rattle.channel.specs.WriteSay.{section, afterSection}
+use Rattle.section_writer.specs.declared.SectionWriter.{SectionWriter}
+use Rattle.section_writer.specs.Section.{withFrames}
+use Rattle.section_writer.specs.State.{above, below, levelNow}
+use Rattle.section_writer.specs.WriteSay.{section, afterSection}
 pub mod Rules
 pub mod Earlier
 

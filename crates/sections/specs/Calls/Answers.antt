@@ -12,9 +12,9 @@ use lib.ListN.{length}
 use Rattle.outcome.specs.Say.{Say, done, refused, demand, never}
 use Rattle.calls.specs.Step.{Step, isDone}
 use Rattle.calls.specs.Calls.{run}
-use Rattle.channel.specs.declared.SectionWriter.{SectionWriter}
-use Rattle.channel.specs.State.{fresh, right}
-use Rattle.channel.specs.WriteSay.{afterSection, writeSay, written}
+use Rattle.section_writer.specs.declared.SectionWriter.{SectionWriter}
+use Rattle.section_writer.specs.State.{fresh, right}
+use Rattle.section_writer.specs.WriteSay.{afterSection, writeSay, written}
 use Rattle.sections.specs.Carried.{state-stays-right, fresh-right}
 use Rattle.sections.specs.Calls.{Call, writes, sayAfter, says}
 use Rattle.sections.specs.Calls.Streams.{when-done, made, refused-stays}

@@ -7,8 +7,8 @@ use lib.ListN.{length}
 use Rattle.calls.specs.Step.{Step}
 use Rattle.calls.specs.Calls.{run, doneOf, accepted}
 use Rattle.section_reader.specs.ReadSay.{sectionRead}
-use Rattle.channel.specs.declared.SectionWriter.{SectionWriter}
-use Rattle.channel.specs.WriteSay.{section, afterSection}
+use Rattle.section_writer.specs.declared.SectionWriter.{SectionWriter}
+use Rattle.section_writer.specs.WriteSay.{section, afterSection}
 use Rattle.sections.specs.Stream.{Part}
 use Rattle.sections.specs.Laid.{wholeOf}
 use Rattle.sections.specs.Laid.ThereAndBack.{packed-comes-back}

@@ -15,9 +15,9 @@ use Rattle.bits.specs.Bits.{pack, unpack}
 use Rattle.bits.specs.Packed.{unpack-append}
 use Rattle.words.specs.Runs.{runs}
 use Rattle.merging.specs.Rule.{header, starts}
-use Rattle.channel.specs.declared.SectionWriter.{SectionWriter}
-use Rattle.channel.specs.State.{right}
-use Rattle.channel.specs.WriteSay.{section, afterSection, writeSay, written}
+use Rattle.section_writer.specs.declared.SectionWriter.{SectionWriter}
+use Rattle.section_writer.specs.State.{right}
+use Rattle.section_writer.specs.WriteSay.{section, afterSection, writeSay, written}
 use Rattle.sections.specs.Stream.{Part, streamOf}
 use Rattle.sections.specs.Stream.Rules.{runs-everywhere, headers-at}
 use Rattle.sections.specs.Laid.ThereAndBack.{whole}

@@ -12,10 +12,10 @@ use Rattle.bits.specs.Binary.Parts.{binary-append, binary-bits}
 use Rattle.merging.specs.Chosen.{Written, after, dsvAfter, beforeWord, beforeHeader, withWord, withHeader, withTail}
 use Rattle.merging.specs.Dsv.{levelAfter, ups, downs}
 use Rattle.merging.specs.Rule.{header, allowed}
-use Rattle.merging.specs.Traces.{level-append, ups-append, downs-append}
-use Rattle.channel.specs.declared.SectionWriter.{SectionWriter}
-use Rattle.channel.specs.Section.{wordAt, frameWords, withWords, withFrame, withFrames, sectionAfter}
-use Rattle.channel.specs.WriteSay.{section}
+use Rattle.merging.specs.Levels.{level-append, ups-append, downs-append}
+use Rattle.section_writer.specs.declared.SectionWriter.{SectionWriter}
+use Rattle.section_writer.specs.Section.{wordAt, frameWords, withWords, withFrame, withFrames, sectionAfter}
+use Rattle.section_writer.specs.WriteSay.{section}
 use Rattle.sections.specs.Stream.{atStart}
 use Rattle.sections.specs.Grown.{Grown}
 use Rattle.sections.specs.MergingBits.{word-three, word-binary, header-three, header-binary}

@@ -12,7 +12,7 @@ use Rattle.bits.specs.Numbers.{length-bits, number-bits}
 use Rattle.merging.specs.Chosen.{Written, dsvAfter, beforeWord, withWord}
 use Rattle.merging.specs.Rule.{allowed}
 use Rattle.section_reader.specs.Reading.{fieldAt}
-use Rattle.channel.specs.Section.{withWords}
+use Rattle.section_writer.specs.Section.{withWords}
 use Rattle.sections.specs.MergingBits.{word-three}
 use Rattle.sections.specs.Grown.{Grown}
 use Rattle.sections.specs.Grown.Section.{grown-word, grown-words}

@@ -13,11 +13,11 @@ use Rattle.outcome.specs.Bytes.{Bytes}
 use Rattle.outcome.specs.Table.{tabulated, tabulated-at}
 use Rattle.words.specs.Facts.{word-14}
 use Rattle.merging.specs.Chosen.{Written, withHeader, withTail}
-use Rattle.channel.specs.declared.SectionWriter.{SectionWriter}
+use Rattle.section_writer.specs.declared.SectionWriter.{SectionWriter}
 use Rattle.section_reader.specs.Reading.{fieldAt, firstHeadless, wordRead}
 use Rattle.section_reader.specs.Reading.Headers.{all-headed}
-use Rattle.channel.specs.Section.{wordAt, frameWords, withWords, withFrame, withFrames, sectionAfter}
-use Rattle.channel.specs.WriteSay.{section}
+use Rattle.section_writer.specs.Section.{wordAt, frameWords, withWords, withFrame, withFrames, sectionAfter}
+use Rattle.section_writer.specs.WriteSay.{section}
 use Rattle.sections.specs.Stream.{atStart}
 use Rattle.sections.specs.Grown.{Grown}
 use Rattle.sections.specs.Grown.Section.{grown-words, grown-header, grown-tail, grown-frame, grown-frames}

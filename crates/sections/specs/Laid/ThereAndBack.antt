@@ -17,12 +17,12 @@ use Rattle.words.specs.declared.Symbol.the-variants.{Unknown}
 use Rattle.words.specs.Facts.{byte-of-word, sync0-unknown, sync1-unknown}
 use Rattle.words.specs.Words.{wordOf, byteOf, sync0, sync1}
 use Rattle.bits.specs.Binary.{Binary}
-use Rattle.channel.specs.declared.SectionWriter.{SectionWriter}
+use Rattle.section_writer.specs.declared.SectionWriter.{SectionWriter}
 use Rattle.section_reader.specs.ReadSay.{readSay, sectionRead}
 use Rattle.section_reader.specs.Reading.{byteFor, markFor, byteRead, markRead, bytesRead, marksRead}
-use Rattle.channel.specs.Section.{wordAt}
-use Rattle.channel.specs.State.{right}
-use Rattle.channel.specs.WriteSay.{section, written, writeSay}
+use Rattle.section_writer.specs.Section.{wordAt}
+use Rattle.section_writer.specs.State.{right}
+use Rattle.section_writer.specs.WriteSay.{section, written, writeSay}
 use Rattle.merging.specs.Chosen.{Written}
 use Rattle.sections.specs.Grown.Section.{grown-section}
 use Rattle.sections.specs.Laid.{laidByte, laidMark, laidBytes, laidMarks, wholeOf}

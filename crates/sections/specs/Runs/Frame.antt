@@ -19,7 +19,7 @@ use Rattle.merging.specs.Ready.{ready}
 use Rattle.merging.specs.Rule.{header, allowed}
 use Rattle.merging.specs.Taken.{header-taken}
 use Rattle.merging.specs.Ties.{Tied, tied-header, steps-append, live-first}
-use Rattle.channel.specs.Section.{wordAt, frameWords, withWords, withFrame, withFrames}
+use Rattle.section_writer.specs.Section.{wordAt, frameWords, withWords, withFrame, withFrames}
 use Rattle.sections.specs.MergingBits.{header-three, header-binary}
 use Rattle.sections.specs.Runs.{Opening, Running, Ran}
 use Rattle.sections.specs.Runs.Word.{run-word, word-takes, more-own, more-tied, more-placed}

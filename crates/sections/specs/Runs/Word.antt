@@ -20,7 +20,7 @@ use Rattle.merging.specs.Ready.{ready}
 use Rattle.merging.specs.Rule.{allowed}
 use Rattle.merging.specs.Taken.{word-taken, sync0-taken, sync1-taken}
 use Rattle.merging.specs.Ties.{Tied, tied-more}
-use Rattle.channel.specs.Section.{wordAt}
+use Rattle.section_writer.specs.Section.{wordAt}
 use Rattle.sections.specs.Laid.Words.{at-word}
 use Rattle.sections.specs.MergingBits.{word-three, word-binary}
 use Rattle.sections.specs.Runs.{Running, Ran}

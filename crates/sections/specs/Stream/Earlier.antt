@@ -9,9 +9,9 @@ use Rattle.merging.specs.Chosen.{Written, withWord, withHeader, withTail}
 use Rattle.merging.specs.Chosen.Behind.{Begun, behind, begun-header, begun-word, begun-tail, word-behind, header-behind, tail-behind}
 use Rattle.merging.specs.Rule.{header}
 use Rattle.merging.specs.Ties.{Tied}
-use Rattle.channel.specs.declared.SectionWriter.{SectionWriter}
-use Rattle.channel.specs.Section.{frameWords, withWords, withFrame, withFrames, sectionAfter}
-use Rattle.channel.specs.WriteSay.{section, afterSection}
+use Rattle.section_writer.specs.declared.SectionWriter.{SectionWriter}
+use Rattle.section_writer.specs.Section.{frameWords, withWords, withFrame, withFrames, sectionAfter}
+use Rattle.section_writer.specs.WriteSay.{section, afterSection}
 use Rattle.sections.specs.Runs.{Opens}
 use Rattle.sections.specs.Stream.{Part, streamOf, atStart, sectionAmong, streamAmong}
 use Rattle.sections.specs.Stream.Rules.{opens-none, one-section}

@@ -15,9 +15,9 @@ use Rattle.words.specs.Runs.{runs}
 use Rattle.merging.specs.Places.{placed, placed-first}
 use Rattle.merging.specs.Rule.{header, starts}
 use Rattle.merging.specs.Ties.{tied-first}
-use Rattle.channel.specs.declared.SectionWriter.{SectionWriter}
-use Rattle.channel.specs.Section.{sectionAfter}
-use Rattle.channel.specs.WriteSay.{section, afterSection}
+use Rattle.section_writer.specs.declared.SectionWriter.{SectionWriter}
+use Rattle.section_writer.specs.Section.{sectionAfter}
+use Rattle.section_writer.specs.WriteSay.{section, afterSection}
 use Rattle.sections.specs.Runs.{Opens}
 use Rattle.sections.specs.Runs.Frame.{run-frames}
 use Rattle.sections.specs.Stream.{Part, streamOf, atStart}

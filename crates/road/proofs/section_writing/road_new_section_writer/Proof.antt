@@ -2,8 +2,8 @@
 -- Assumes nothing.
 use borrow.Author.Needs.{needs}
 use mathlib.Core.Path.{_≡_, ap, _∙_}
-use Rattle.channel.specs.State.{fresh}
-use Rattle.channel.specs.declared.SectionWriter.{SectionWriter}
+use Rattle.section_writer.specs.State.{fresh}
+use Rattle.section_writer.specs.declared.SectionWriter.{SectionWriter}
 use Rattle.road.proofs.section_writing.road_new_section_writer.Statement.{statement}
 use Rattle.road.proofs.section_writing.road_new_section_writer.Tie as tie
 

@@ -6,9 +6,9 @@ use mathlib.Core.List.{List}
 use Prim.Native.Nat.{ℕ}
 use lib.IntN.{ℤ}
 use Rattle.outcome.specs.Say.{Say}
-use Rattle.channel.specs.declared.SectionWriter.{SectionWriter}
+use Rattle.section_writer.specs.declared.SectionWriter.{SectionWriter}
 use Rattle.calls.specs.Step.{Step, step}
-use Rattle.channel.specs.WriteSay.{written}
+use Rattle.section_writer.specs.WriteSay.{written}
 use Rattle.road.specs.Coded.{coded}
 use Rattle.road.specs.Sections.{WriteTold, write-tells}
 use Rattle.road.proofs.section_writing.road_write_section.Statement.{statement}

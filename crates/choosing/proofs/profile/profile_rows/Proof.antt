@@ -1,0 +1,16 @@
+-- `choosing::profile::profile_rows` meets its contract: the constant is the rows of the words and both SYNCs.
+-- Assumes nothing.
+use mathlib.Core.Path.{refl}
+use Rattle.words.specs.Words.{words}
+use Rattle.merging.specs.Automaton.{step}
+use Rattle.choosing.specs.Profiles.{rows}
+use Rattle.choosing.specs.Symbols.{symbols}
+use Rattle.choosing.proofs.profile.profile_rows.Statement.{statement}
+use Rattle.choosing.proofs.profile.profile_rows.Tie as tie
+
+returns : tie.Need-returns
+unfolding rows symbols words step
+returns c = refl
+
+pub profile-rows-spec : {M : Type 1} → statement M
+profile-rows-spec = tie.close (tie.spec returns)

@@ -1,0 +1,69 @@
+-- What is chosen, by the automaton (document 01, "Channel bits"): before a word, before a Sync Header, and in a whole frame. `light` and `fits`
+-- say for which traces; for the others, and for numbers that are no symbol's, no bits are chosen and the trace stays as it is.
+-- Assumes nothing.
+use mathlib.Core.Bool.{cond, _&&_}
+use mathlib.Core.List.{List, [], _∷_, _++_}
+use Prim.Native.Nat.{ℕ}
+use lib.Dec.{ltb}
+use Rattle.bits.specs.Bits.{number}
+use Rattle.merging.specs.Agree.{passes}
+use Rattle.merging.specs.Automaton.{start22}
+use Rattle.merging.specs.Chosen.{beforeWord, beforeHeader}
+use Rattle.merging.specs.Rule.{header}
+use Rattle.choosing.specs.declared.FrameChoice.{FrameChoice}
+use Rattle.choosing.specs.declared.Tally.{Tally}
+use Rattle.choosing.specs.declared.header.Tail.{Tail}
+use Rattle.choosing.specs.declared.trace.Choice.{Choice}
+use Rattle.choosing.specs.declared.trace.Trace.{Trace}
+use Rattle.choosing.specs.Symbols.{bitsAt}
+use Rattle.choosing.specs.Traces.{tallyAfter, traceAfter, tallyDsv, light, fits}
+pub mod Rows
+pub mod Digits
+
+-- the Merging bits before a word
+abbrev pub beforeNextWord : Trace → List ℕ → List ℕ
+beforeNextWord t next = beforeWord (passes (t .run) next) (tallyDsv (t .tally) next)
+
+-- those and the word, as a number, and the trace after them
+unfoldable pub chosenWord : Trace → List ℕ → Choice
+chosenWord t next = record { bits = number 0 (beforeNextWord t next ++ next); after = traceAfter t (beforeNextWord t next ++ next) }
+
+-- symbol k
+unfoldable pub wordChoice : Trace → ℕ → Choice
+wordChoice t k = cond (fits t && ltb k 258) (chosenWord t (bitsAt k)) (record { bits = 0; after = t })
+
+-- some symbols, one after the other: their bits, and the trace after them
+unfoldable pub wordsChosen : Trace → List ℕ → List ℕ
+wordsChosen t [] = []
+wordsChosen t (k ∷ ks) = wordChoice t k .bits ∷ wordsChosen (wordChoice t k .after) ks
+
+unfoldable pub wordsTrace : Trace → List ℕ → Trace
+wordsTrace t [] = t
+wordsTrace t (k ∷ ks) = wordsTrace (wordChoice t k .after) ks
+
+-- the automaton's state after a Sync Header: one ZERO since a ONE that has ten ZEROs before it
+abbrev pub headed : ℕ
+headed = 12
+
+-- the trace after a Sync Header
+unfoldable pub afterHeader : Tally → Trace
+afterHeader t = record { run = headed; tally = cond (light t) (tallyAfter t header) t }
+
+-- the Merging bits before a Sync Header: the automaton looks at its first 22 bits, since its 23rd is the ONE that makes it one
+abbrev pub beforeNextHeader : Trace → List ℕ
+beforeNextHeader t = beforeHeader (passes (t .run) start22) (tallyDsv (t .tally) header)
+
+unfoldable pub chosenTail : Trace → Tail
+chosenTail t = record { bits = number 0 (beforeNextHeader t); after = tallyAfter (t .tally) (beforeNextHeader t) }
+
+unfoldable pub tailChoice : Trace → Tail
+tailChoice t = cond (fits t) (chosenTail t) (record { bits = 0; after = t .tally })
+
+-- a frame: its words after a Sync Header, and the Merging bits before the next one
+unfoldable pub frameChoice : Tally → List ℕ → FrameChoice
+frameChoice t ks =
+    record {
+      words = wordsChosen (afterHeader t) ks;
+      tail = tailChoice (wordsTrace (afterHeader t) ks) .bits;
+      after = tailChoice (wordsTrace (afterHeader t) ks) .after;
+    }

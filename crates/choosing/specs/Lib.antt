@@ -1,0 +1,7 @@
+pub mod Symbols
+pub mod Traces
+pub mod Choices
+pub mod States
+pub mod Profiles
+pub mod Strokes
+pub mod Candidates

@@ -1,0 +1,50 @@
+-- The state that a Section writer carries (document 01, "Numbers that come back", 7 and 9): DSV, level and the count of Sections.
+-- Assumes nothing.
+use mathlib.Core.Bool.{Bool, cond, _&&_}
+use Prim.Native.Nat.{ℕ, zero, suc, _*_, _^_}
+use lib.Dec.{eqb, leb, ltb}
+use lib.IntN.{ℤ, pos, negsuc, subℕ, natAbs}
+use Rattle.choosing.specs.declared.Tally.{Tally}
+pub mod Range
+
+-- a writer writes at most 450,000 Sections, of 57,624 Channel bits each
+abbrev pub mostSections : ℕ
+mostSections = 450000
+
+abbrev pub sectionBits : ℕ
+sectionBits = 57624
+
+-- the level is +1 or -1
+abbrev pub levelRight : ℤ → Bool
+levelRight (pos n) = eqb n 1
+levelRight (negsuc n) = eqb n 0
+
+-- the level is +1 or -1, at most 450,000 Sections are written, and the absolute DSV is at most 57,624 times their count
+abbrev pub possible : ℤ → ℤ → ℕ → Bool
+possible dsv level sections = levelRight level && (leb sections mostSections && leb (natAbs dsv) (sectionBits * sections))
+
+-- a DSV as two counts: how far above 0, and how far below
+abbrev pub above : ℤ → ℕ
+above (pos n) = n
+above (negsuc n) = 0
+
+abbrev pub below : ℤ → ℕ
+below (pos n) = 0
+below (negsuc n) = suc n
+
+-- the level as 1 for +1 and 0 for -1, and back
+abbrev pub levelNow : ℤ → ℕ
+levelNow (pos n) = 1
+levelNow (negsuc n) = 0
+
+abbrev pub levelThen : ℕ → ℤ
+levelThen zero = negsuc 0
+levelThen (suc l) = pos 1
+
+-- the tally that a Section begins with
+abbrev pub beginning : ℤ → ℤ → Tally
+beginning dsv level = record { level = levelNow level; plus = above dsv; minus = below dsv }
+
+-- the DSV after a Section, by the counts of bits at level +1 and at -1; for counts that no writer reaches it is 0
+unfoldable pub dsvThen : ℕ → ℕ → ℤ
+dsvThen plus minus = cond (ltb plus (2 ^ 60) && ltb minus (2 ^ 60)) (subℕ plus minus) (pos 0)
