@@ -19,6 +19,7 @@ use Rattle.judge.specs.declared.Parity.{Parity}
 use Rattle.judge.specs.declared.Parity.the-variants.{P, Q}
 use Rattle.judge.specs.declared.Judged.{Judged}
 use Rattle.judge.specs.declared.Judged.the-variants.{Passed, WrongIncoming, WrongSync, UnknownMode, WrongAddress, WrongEdc, WrongIntermediate, WrongP, WrongQ, WrongFiller}
+pub mod Told
 
 -- the codewords of P and of Q: how many, of how many bytes, and where byte m of codeword n stands
 abbrev pub wordsOf : Parity → ℕ

@@ -10,6 +10,7 @@ use Rattle.rspc.specs.Words.{pWord}
 use Rattle.sector.specs.Correct.{CorrectMode01}
 use Rattle.repair.specs.declared.Repaired.{Repaired}
 use Rattle.repair.specs.declared.Repaired.the-variants.{HandedOut, WrongIncoming, WrongOutgoing, NoSectorNear}
+pub mod Told
 
 -- s differs from what came in, r, in at most one byte of each P codeword; Sync and Q parity are in none, so they do not count
 abbrev pub NearP : List ℕ → List ℕ → Type 0
