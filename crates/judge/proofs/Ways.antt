@@ -5,7 +5,9 @@ use mathlib.Core.Bool.{Bool, true, false, not}
 use mathlib.Core.List.{List, [], _∷_}
 use Prim.Native.Nat.{ℕ, _≤_, _<_}
 use borrow.Author.Tests.{eq-eqb, ne-eqb, lt-leb, le-leb, lt-ltb, le-ltb, not-true, not-false}
+use native.Mathlib.Omega.{arith}
 use lib.ListN.{length, take}
+use lib.Seq.{length-take-le}
 use Rattle.outcome.specs.Say.{Say, refused}
 use Rattle.outcome.specs.First.{firstBelow}
 use Rattle.edc.specs.Bits.{bits}
@@ -18,6 +20,10 @@ use Rattle.judge.specs.declared.Parity.the-variants.{P, Q}
 use Rattle.judge.specs.Judging.{failing, passing, judgingMode01, judgingMode00, byMode, judging}
 
 -- ---- Mode 01: 11, 12, 13, 14
+
+-- the bytes that the EDC covers are there
+pub covered-long : (s : List ℕ) → length s ≡ 2352 → 2068 ≡ length (take 2068 s)
+covered-long s l = sym (length-take-le 2068 s (omega arith))
 
 module _ (s : List ℕ) (e : Bool) (he : e ≡ isZero (remainder (bits (take 2068 s)))) where
   pub on-edc : not e ≡ true → refused 11 [] ≡ judgingMode01 s
@@ -48,6 +54,8 @@ module _ (s : List ℕ) (e : Bool) (he : e ≡ isZero (remainder (bits (take 206
             let d = sym he ∙ not-false e ne in
             let m = sym hi ∙ not-false i ni in
             ap (passing 1) ht ∙ simp (d, m, sym hp, le-ltb p 86 lp, sym hq, le-ltb q 52 l)
+
+pub ruleset ways01 = (on-edc, on-intermediate, on-p, on-q, on-pass)
 
 -- ---- by mode
 
@@ -94,3 +102,5 @@ module _ (s : List ℕ) where
             let d = sym hy ∙ not-false y ny in
             let t = sym hr ∙ not-false r n in
             h ∙ simp (eq-eqb (length s) 2352 l, d, le-leb (modeOf s) 2 m, t)
+
+pub ruleset ways = (on-length, on-sync, on-mode, on-address, by-mode)

@@ -2,15 +2,16 @@
 -- Assumes nothing.
 use mathlib.Core.Path.{_≡_, sym, _∙_, subst}
 use mathlib.Core.Bool.{Bool, true, false, _&&_}
-use mathlib.Core.List.{List}
+use mathlib.Core.List.{List, [], _∷_}
 use Prim.Native.Nat.{ℕ, _<_}
 use native.Mathlib.Omega.{arith}
 use borrow.Author.Tests.{eq-eqb, eqb-true}
 use lib.Dec.{T, eqb}
 use lib.ListN.{length, take}
+use Rattle.outcome.specs.Say.{Say, done}
 use Rattle.outcome.specs.Bytes.{Bytes}
 use Rattle.outcome.specs.Table.{and-left, and-right, true-of, of-true}
-use Rattle.codeword.specs.Code.{Codeword, Near}
+use Rattle.codeword.specs.Code.{Codeword, Near, changes}
 use Rattle.codeword.specs.NearLaws.{near-unique}
 use Rattle.edc.specs.Bits.{bits}
 use Rattle.edc.specs.Edc.{remainder, isZero}
@@ -120,3 +121,8 @@ candidate-alone r s c e t g =
 pub record FoundFor (r : List ℕ) (near : Bool) (s : List ℕ) : Type 0 where
   pub candidate : near ≡ true → Bytes s → Candidate r s
   pub nothing : near ≡ false → (t : List ℕ) → Sought r t → ⊥
+
+-- the Sector s handed out for r: the answer has the count, and the buffer holds s
+pub record HandsOut (r s : List ℕ) (a : Say) (new : List ℕ) : Type 0 where
+  pub says : a ≡ done (changes r s ∷ [])
+  pub gives : new ≡ s
