@@ -11,7 +11,8 @@ use Rattle.outcome.specs.Table.{allBelow, and-left, and-right, true-of}
 use Rattle.field.specs.Field.{timesAlpha, power, mulBits, mul}
 use Rattle.codeword.specs.Code.{sum}
 use Rattle.rspc.specs.Words.{place, pNumber, qNumber, pWord}
-use Rattle.sector.specs.Same.{same, same-equal}
+use Rattle.lists.specs.Same.{same}
+use Rattle.lists.specs.Same.Equal.{same-equal}
 use Rattle.scrambling.specs.Sequence.{sequence, bit, register, next}
 use Rattle.circ.specs.Rows.{rowDelay, beforeC2, between, afterC1}
 use Rattle.bits.specs.Bits.{bitsOf}

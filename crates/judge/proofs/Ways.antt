@@ -12,10 +12,11 @@ use Rattle.outcome.specs.Say.{Say, refused}
 use Rattle.outcome.specs.First.{firstBelow}
 use Rattle.edc.specs.Bits.{bits}
 use Rattle.edc.specs.Edc.{remainder, isZero}
+use Rattle.rspc.specs.Words.{pWords, qWords}
 use Rattle.address.specs.Address.{inRange}
 use Rattle.address.specs.declared.HeaderTime.{HeaderTime}
 use Rattle.sector.specs.Layout.{sync, bytesFrom, timeOf, modeOf, zeros}
-use Rattle.sector.specs.Same.{same}
+use Rattle.lists.specs.Same.{same}
 use Rattle.judge.specs.declared.Parity.the-variants.{P, Q}
 use Rattle.judge.specs.Judging.{failing, passing, judgingMode01, judgingMode00, byMode, judging}
 
@@ -35,25 +36,25 @@ module _ (s : List ℕ) (e : Bool) (he : e ≡ isZero (remainder (bits (take 206
     unfolding judgingMode01
     on-intermediate n = let d = sym he ∙ not-false e ne in let m = sym hi ∙ not-true i n in simp (d, m)
 
-    module _ (ni : not i ≡ false) (p : ℕ) (hp : p ≡ firstBelow (failing P s) 86) where
-      pub on-p : p < 86 → refused 13 (p ∷ []) ≡ judgingMode01 s
+    module _ (ni : not i ≡ false) (p : ℕ) (hp : p ≡ firstBelow (failing P s) pWords) where
+      pub on-p : p < pWords → refused 13 (p ∷ []) ≡ judgingMode01 s
       unfolding judgingMode01
-      on-p l = let d = sym he ∙ not-false e ne in let m = sym hi ∙ not-false i ni in simp (d, m, sym hp, lt-ltb p 86 l)
+      on-p l = let d = sym he ∙ not-false e ne in let m = sym hi ∙ not-false i ni in simp (d, m, sym hp, lt-ltb p pWords l)
 
-      module _ (lp : 86 ≤ p) (q : ℕ) (hq : q ≡ firstBelow (failing Q s) 52) where
-        pub on-q : q < 52 → refused 14 (q ∷ []) ≡ judgingMode01 s
+      module _ (lp : pWords ≤ p) (q : ℕ) (hq : q ≡ firstBelow (failing Q s) qWords) where
+        pub on-q : q < qWords → refused 14 (q ∷ []) ≡ judgingMode01 s
         unfolding judgingMode01
         on-q l =
             let d = sym he ∙ not-false e ne in
             let m = sym hi ∙ not-false i ni in
-            simp (d, m, sym hp, le-ltb p 86 lp, sym hq, lt-ltb q 52 l)
+            simp (d, m, sym hp, le-ltb p pWords lp, sym hq, lt-ltb q qWords l)
 
-        pub on-pass : 52 ≤ q → (t : HeaderTime) → t ≡ timeOf s → passing 1 t ≡ judgingMode01 s
+        pub on-pass : qWords ≤ q → (t : HeaderTime) → t ≡ timeOf s → passing 1 t ≡ judgingMode01 s
         unfolding judgingMode01
         on-pass l t ht =
             let d = sym he ∙ not-false e ne in
             let m = sym hi ∙ not-false i ni in
-            ap (passing 1) ht ∙ simp (d, m, sym hp, le-ltb p 86 lp, sym hq, le-ltb q 52 l)
+            ap (passing 1) ht ∙ simp (d, m, sym hp, le-ltb p pWords lp, sym hq, le-ltb q qWords l)
 
 pub ruleset ways01 = (on-edc, on-intermediate, on-p, on-q, on-pass)
 

@@ -12,7 +12,8 @@ use Rattle.outcome.specs.Bytes.{Bytes}
 use Rattle.outcome.specs.Lengths.{same-lengths}
 use Rattle.codeword.specs.Code.{changes}
 use Rattle.repair.specs.Repair.{Sought, Repairs, wrong-incoming, wrong-outgoing, none-near, handed-out}
-use Rattle.repair.specs.Candidate.{rules, Candidate, FoundFor, HandsOut, candidate-sought, candidate-alone}
+use Rattle.repair.specs.Inner.Candidate.{rules, Candidate, FoundFor, HandsOut}
+use Rattle.repair.proofs.Candidates.{candidate-sought, candidate-alone}
 
 module _ (r old new : List ℕ) where
   leaves : (n : ℕ) → new ≡ cleared 2352 old → Repairs r old (refused n []) (cleared 2352 old) → Repairs r old (refused n []) new

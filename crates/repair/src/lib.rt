@@ -7,7 +7,7 @@ ghost use Prim.Native.Nat.{min};
 ghost use Rattle.codeword.specs.Code.{changes};
 ghost use Rattle.outcome.specs.Bytes.{Bytes};
 ghost use Rattle.repair.specs.Repair.{Repairs, sayOf};
-ghost use Rattle.repair.specs.Candidate.{rules, FoundFor, HandsOut};
+ghost use Rattle.repair.specs.Inner.Candidate.{rules, FoundFor, HandsOut};
 use address::HeaderTime;
 
 // What becomes of a Sector: it is handed out with the count of changed bytes, or refused.
@@ -78,10 +78,10 @@ fn candidate(received: &[u8]) -> Found
 {
     let mut s = sector::blank();
     outcome::copy(received, &mut s);
-    let near = rspc::p_pass(&mut s);
+    let near = mending::p_pass(&mut s);
     let sync = sector::sync_field();
     outcome::copy(&sync, &mut s[..12]);
-    rspc::put_q(&mut s);
+    parities::put_q(&mut s);
     Found { near, sector: s }
 }
 

@@ -3,7 +3,7 @@ ghost use mathlib.Core.Path.{_≡_};
 ghost use Prim.Native.Nat.{_+_, _<_, _≤_};
 ghost use lib.ListN.{length, take, drop};
 ghost use Rattle.sector.specs.Layout.{sync, bytesFrom, zeros};
-ghost use Rattle.sector.specs.Same.{same};
+ghost use Rattle.lists.specs.Same.{same};
 
 // The twelve bytes of the Sync field (14.1).
 pub fn sync_field() -> [u8; 12]

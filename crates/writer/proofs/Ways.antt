@@ -13,7 +13,7 @@ use Rattle.outcome.specs.Lengths.{same-lengths}
 use Rattle.address.specs.Address.{inRange}
 use Rattle.address.specs.declared.HeaderTime.{HeaderTime}
 use Rattle.sector.specs.Layout.{userLength}
-use Rattle.writer.specs.Make.{Makes}
+use Rattle.writer.specs.Inner.Make.{Makes}
 use Rattle.writer.specs.Write.{Asked, says, Writes, refuses, writes}
 
 module _ (mode : ℕ) (time : HeaderTime) (user old : List ℕ) where

@@ -10,7 +10,7 @@ use Rattle.outcome.specs.Say.{Say, done, refused}
 use Rattle.repair.specs.declared.Repaired.{Repaired}
 use Rattle.repair.specs.declared.Repaired.the-variants.{HandedOut, WrongIncoming, WrongOutgoing, NoSectorNear}
 use Rattle.repair.specs.Repair.{Repairs, sayOf}
-use Rattle.repair.specs.Laws.{repair-one}
+use Rattle.repair.specs.Repair.One.{repair-one}
 
 answer : Say → Repaired
 answer (done vs) = HandedOut (getD vs 0 0)

@@ -10,7 +10,7 @@ use Rattle.address.specs.declared.HeaderTime.{HeaderTime}
 use Rattle.writer.specs.declared.Written.{Written}
 use Rattle.writer.specs.declared.Written.the-variants.{Done, WrongOutgoing, UnknownMode, WrongIncoming, WrongAddress}
 use Rattle.writer.specs.Write.{Writes, sayOf}
-use Rattle.writer.specs.Laws.{write-one}
+use Rattle.writer.specs.Write.One.{write-one}
 
 answer : Say → Written
 answer (done vs) = Done
