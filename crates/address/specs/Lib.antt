@@ -1,1 +1,2 @@
+-- the address of a Sector (14.2)
 pub mod Address

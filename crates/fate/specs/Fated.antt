@@ -8,7 +8,7 @@ use lib.Dec.{eqb}
 use Rattle.outcome.specs.Say.{Say, done, refused}
 use Rattle.sector.specs.Layout.{timeOf, zeros}
 use Rattle.repair.specs.Repair.{Repairs}
-use Rattle.repair.specs.Laws.{repair-one}
+use Rattle.repair.specs.Repair.One.{repair-one}
 use Rattle.text.specs.declared.Fate.{Fate}
 use Rattle.text.specs.declared.Fate.the-variants.{Clean, Repaired, Refused}
 

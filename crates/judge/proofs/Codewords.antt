@@ -9,11 +9,12 @@ use lib.ListN.{length, getD}
 use Rattle.outcome.specs.Bytes.{Bytes}
 use Rattle.outcome.specs.First.{lt-or-le}
 use Rattle.rspc.specs.Words.{place, qNumber}
-use Rattle.rspc.specs.Cover.{length-p, p-at, length-q, q-at, q-data, q-parity}
-use Rattle.rspc.specs.Parity.{bytes-p, bytes-q}
+use Rattle.rspc.specs.Words.P.{length-p, p-at, bytes-p}
+use Rattle.rspc.specs.Words.Q.{length-q, q-at, q-data, q-parity, bytes-q}
 use Rattle.judge.specs.declared.Parity.{Parity}
 use Rattle.judge.specs.declared.Parity.the-variants.{P, Q}
-use Rattle.judge.specs.Judging.{wordsOf, rowsOf, placeOf, wordOf}
+use Rattle.judge.specs.Judging.{wordsOf, wordOf}
+use Rattle.judge.specs.Inner.Places.{rowsOf, placeOf}
 
 pub words-le : (parity : Parity) → wordsOf parity ≤ 86
 words-le P = omega arith

@@ -5,19 +5,26 @@ use mathlib.Core.Bool.{Bool, true, false, not}
 use mathlib.Core.List.{List, [], _∷_}
 use Prim.Native.Nat.{ℕ, _≤_, _<_}
 use borrow.Author.Tests.{eq-eqb, ne-eqb, lt-leb, le-leb, lt-ltb, le-ltb, not-true, not-false}
+use native.Mathlib.Omega.{arith}
 use lib.ListN.{length, take}
+use lib.Seq.{length-take-le}
 use Rattle.outcome.specs.Say.{Say, refused}
 use Rattle.outcome.specs.First.{firstBelow}
 use Rattle.edc.specs.Bits.{bits}
 use Rattle.edc.specs.Edc.{remainder, isZero}
+use Rattle.rspc.specs.Words.{pWords, qWords}
 use Rattle.address.specs.Address.{inRange}
 use Rattle.address.specs.declared.HeaderTime.{HeaderTime}
 use Rattle.sector.specs.Layout.{sync, bytesFrom, timeOf, modeOf, zeros}
-use Rattle.sector.specs.Same.{same}
+use Rattle.lists.specs.Same.{same}
 use Rattle.judge.specs.declared.Parity.the-variants.{P, Q}
 use Rattle.judge.specs.Judging.{failing, passing, judgingMode01, judgingMode00, byMode, judging}
 
 -- ---- Mode 01: 11, 12, 13, 14
+
+-- the bytes that the EDC covers are there
+pub covered-long : (s : List ℕ) → length s ≡ 2352 → 2068 ≡ length (take 2068 s)
+covered-long s l = sym (length-take-le 2068 s (omega arith))
 
 module _ (s : List ℕ) (e : Bool) (he : e ≡ isZero (remainder (bits (take 2068 s)))) where
   pub on-edc : not e ≡ true → refused 11 [] ≡ judgingMode01 s
@@ -29,25 +36,27 @@ module _ (s : List ℕ) (e : Bool) (he : e ≡ isZero (remainder (bits (take 206
     unfolding judgingMode01
     on-intermediate n = let d = sym he ∙ not-false e ne in let m = sym hi ∙ not-true i n in simp (d, m)
 
-    module _ (ni : not i ≡ false) (p : ℕ) (hp : p ≡ firstBelow (failing P s) 86) where
-      pub on-p : p < 86 → refused 13 (p ∷ []) ≡ judgingMode01 s
+    module _ (ni : not i ≡ false) (p : ℕ) (hp : p ≡ firstBelow (failing P s) pWords) where
+      pub on-p : p < pWords → refused 13 (p ∷ []) ≡ judgingMode01 s
       unfolding judgingMode01
-      on-p l = let d = sym he ∙ not-false e ne in let m = sym hi ∙ not-false i ni in simp (d, m, sym hp, lt-ltb p 86 l)
+      on-p l = let d = sym he ∙ not-false e ne in let m = sym hi ∙ not-false i ni in simp (d, m, sym hp, lt-ltb p pWords l)
 
-      module _ (lp : 86 ≤ p) (q : ℕ) (hq : q ≡ firstBelow (failing Q s) 52) where
-        pub on-q : q < 52 → refused 14 (q ∷ []) ≡ judgingMode01 s
+      module _ (lp : pWords ≤ p) (q : ℕ) (hq : q ≡ firstBelow (failing Q s) qWords) where
+        pub on-q : q < qWords → refused 14 (q ∷ []) ≡ judgingMode01 s
         unfolding judgingMode01
         on-q l =
             let d = sym he ∙ not-false e ne in
             let m = sym hi ∙ not-false i ni in
-            simp (d, m, sym hp, le-ltb p 86 lp, sym hq, lt-ltb q 52 l)
+            simp (d, m, sym hp, le-ltb p pWords lp, sym hq, lt-ltb q qWords l)
 
-        pub on-pass : 52 ≤ q → (t : HeaderTime) → t ≡ timeOf s → passing 1 t ≡ judgingMode01 s
+        pub on-pass : qWords ≤ q → (t : HeaderTime) → t ≡ timeOf s → passing 1 t ≡ judgingMode01 s
         unfolding judgingMode01
         on-pass l t ht =
             let d = sym he ∙ not-false e ne in
             let m = sym hi ∙ not-false i ni in
-            ap (passing 1) ht ∙ simp (d, m, sym hp, le-ltb p 86 lp, sym hq, le-ltb q 52 l)
+            ap (passing 1) ht ∙ simp (d, m, sym hp, le-ltb p pWords lp, sym hq, le-ltb q qWords l)
+
+pub ruleset ways01 = (on-edc, on-intermediate, on-p, on-q, on-pass)
 
 -- ---- by mode
 
@@ -94,3 +103,5 @@ module _ (s : List ℕ) where
             let d = sym hy ∙ not-false y ny in
             let t = sym hr ∙ not-false r n in
             h ∙ simp (eq-eqb (length s) 2352 l, d, le-leb (modeOf s) 2 m, t)
+
+pub ruleset ways = (on-length, on-sync, on-mode, on-address, by-mode)

@@ -2,7 +2,7 @@
 -- Assumes nothing.
 use mathlib.Core.Bool.{Bool, not, cond}
 use mathlib.Core.List.{List, [], _∷_}
-use Prim.Native.Nat.{ℕ, _/_, _%_}
+use Prim.Native.Nat.{ℕ}
 use lib.Dec.{eqb, leb, ltb}
 use lib.ListN.{length, take, drop}
 use Rattle.outcome.specs.Say.{Say, done, refused, demand}
@@ -10,28 +10,22 @@ use Rattle.outcome.specs.First.{firstBelow}
 use Rattle.codeword.specs.Nearest.{isCodeword}
 use Rattle.edc.specs.Bits.{bits}
 use Rattle.edc.specs.Edc.{remainder, isZero}
-use Rattle.rspc.specs.Words.{place, pNumber, qNumber, pWord, qWord}
+use Rattle.rspc.specs.Words.{pWords, qWords, pWord, qWord}
 use Rattle.address.specs.Address.{inRange}
 use Rattle.sector.specs.Layout.{sync, bytesFrom, timeOf, modeOf, zeros}
-use Rattle.sector.specs.Same.{same}
+use Rattle.lists.specs.Same.{same}
 use Rattle.address.specs.declared.HeaderTime.{HeaderTime}
 use Rattle.judge.specs.declared.Parity.{Parity}
 use Rattle.judge.specs.declared.Parity.the-variants.{P, Q}
 use Rattle.judge.specs.declared.Judged.{Judged}
 use Rattle.judge.specs.declared.Judged.the-variants.{Passed, WrongIncoming, WrongSync, UnknownMode, WrongAddress, WrongEdc, WrongIntermediate, WrongP, WrongQ, WrongFiller}
+pub mod Exact
+pub mod Told
 
--- the codewords of P and of Q: how many, of how many bytes, and where byte m of codeword n stands
+-- the codewords of P and of Q: how many, and codeword n
 abbrev pub wordsOf : Parity → ℕ
-wordsOf P = 86
-wordsOf Q = 52
-
-abbrev pub rowsOf : Parity → ℕ
-rowsOf P = 26
-rowsOf Q = 45
-
-abbrev pub placeOf : Parity → ℕ → ℕ → ℕ
-placeOf P n r = place (n / 43) (pNumber (n % 43) r)
-placeOf Q n m = place (n / 26) (qNumber (n % 26) m)
+wordsOf P = pWords
+wordsOf Q = qWords
 
 abbrev pub wordOf : Parity → List ℕ → ℕ → List ℕ
 wordOf P s n = pWord s n

@@ -1,2 +1,4 @@
+-- how a Sector is judged
 pub mod Judging
-pub mod Exact
+-- contracts of private functions
+pub mod Inner

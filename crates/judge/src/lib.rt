@@ -4,7 +4,8 @@ ghost use lib.ListN.{length};
 ghost use Rattle.outcome.specs.First.{firstBelow};
 ghost use Prim.Native.Nat.{_<_};
 ghost use Rattle.sector.specs.Layout.{timeOf};
-ghost use Rattle.judge.specs.Judging.{wordsOf, rowsOf, placeOf, failing, judgingMode01, judgingMode00, byMode, judging, sayOf};
+ghost use Rattle.judge.specs.Judging.{wordsOf, failing, judgingMode01, judgingMode00, byMode, judging, sayOf};
+ghost use Rattle.judge.specs.Inner.Places.{rowsOf, placeOf};
 use address::HeaderTime;
 
 pub enum Judged {

@@ -1,4 +1,8 @@
+-- the count of changed bytes
 pub mod Counting
-pub mod Rules
+-- the candidate, the steps that lead to it, and the rules that it must keep
+pub mod Candidates
 pub mod Steps
+pub mod Rules
+-- the ways out
 pub mod Ways

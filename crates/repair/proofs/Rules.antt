@@ -10,8 +10,8 @@ use Rattle.edc.specs.Bits.{bits}
 use Rattle.edc.specs.Edc.{remainder, isZero}
 use Rattle.address.specs.Address.{inRange}
 use Rattle.sector.specs.Layout.{bytesFrom, timeOf, modeOf, zeros}
-use Rattle.sector.specs.Same.{same}
-use Rattle.repair.specs.Candidate.{rules}
+use Rattle.lists.specs.Same.{same}
+use Rattle.repair.specs.Inner.Candidate.{rules}
 
 module _ (s : List ℕ) where
   pub on-mode : (modeOf s ≡ 1 → ⊥) → false ≡ rules s

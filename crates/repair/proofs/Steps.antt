@@ -15,16 +15,16 @@ use Rattle.outcome.specs.Table.{below, all-below, true-of, of-true}
 use Rattle.codeword.specs.Code.{Near}
 use Rattle.codeword.specs.Nearest.{nearest}
 use Rattle.codeword.specs.NearestLaws.{nearest-sound, nearest-complete}
-use Rattle.rspc.specs.Words.{pWord}
-use Rattle.rspc.specs.Cover.{SameCovered, length-p, p-same}
-use Rattle.rspc.specs.Parity.{bytes-p}
-use Rattle.rspc.specs.Place.{same-front, same-back}
+use Rattle.rspc.specs.Words.{pWord, SameCovered}
+use Rattle.rspc.specs.Words.P.{length-p, p-same, bytes-p}
+use Rattle.lists.specs.Agree.{same-front, same-back}
 use Rattle.rspc.specs.Pass.{foundOr, isFound, handedOn, pNear, PPassed, PPass}
 use Rattle.rspc.specs.Put.{QPut, PutQ}
-use Rattle.sector.specs.Layout.{sync, zeros, length-zeros}
+use Rattle.sector.specs.Layout.{sync, zeros}
+use Rattle.sector.specs.Layout.Zeros.{length-zeros}
 use Rattle.repair.specs.Repair.{Sought}
-use Rattle.repair.specs.Laws.{sought-near}
-use Rattle.repair.specs.Candidate.{FoundFor}
+use Rattle.repair.specs.Repair.One.{sought-near}
+use Rattle.repair.specs.Inner.Candidate.{FoundFor}
 
 -- ---- a codeword that was found is near, and one that is near is found
 

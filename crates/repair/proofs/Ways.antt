@@ -7,12 +7,13 @@ use Prim.Native.Nat.{ℕ}
 use borrow.Author.Tests.{not-true, not-false}
 use lib.Dec.{eqb}
 use lib.ListN.{length, replicate}
-use Rattle.outcome.specs.Say.{done, refused, cleared, cleared-right, cleared-wrong}
+use Rattle.outcome.specs.Say.{Say, done, refused, cleared, cleared-right, cleared-wrong}
 use Rattle.outcome.specs.Bytes.{Bytes}
 use Rattle.outcome.specs.Lengths.{same-lengths}
 use Rattle.codeword.specs.Code.{changes}
 use Rattle.repair.specs.Repair.{Sought, Repairs, wrong-incoming, wrong-outgoing, none-near, handed-out}
-use Rattle.repair.specs.Candidate.{rules, Candidate, FoundFor, candidate-sought, candidate-alone}
+use Rattle.repair.specs.Inner.Candidate.{rules, Candidate, FoundFor, HandsOut}
+use Rattle.repair.proofs.Candidates.{candidate-sought, candidate-alone}
 
 module _ (r old new : List ℕ) where
   leaves : (n : ℕ) → new ≡ cleared 2352 old → Repairs r old (refused n []) (cleared 2352 old) → Repairs r old (refused n []) new
@@ -38,14 +39,20 @@ module _ (r old new : List ℕ) where
           by true e n = candidate-alone r s (the-candidate e) (sym (g .0) ∙ n)
           by false e n = f .nothing e
 
-      pub on-found : not (near && right) ≡ false → (k : Bool) → (k ≡ eqb (length s) (length old)) × (new ≡ cond k s old) → (n : ℕ) → n ≡ changes r s
-          → Repairs r old (done (n ∷ [])) new
-      on-found m k e n c = by near refl (not-false (near && right) m)
+      pub on-found : not (near && right) ≡ false → (a : Say) → HandsOut r s a new → Repairs r old a new
+      on-found m a h = by near refl (not-false (near && right) m)
         where
-          by : (b : Bool) → near ≡ b → b && right ≡ true → Repairs r old (done (n ∷ [])) new
+          by : (b : Bool) → near ≡ b → b && right ≡ true → Repairs r old a new
           by true q m =
-              let same : new ≡ s = same-lengths k (length s) (length old) new s old e (the-candidate q .long ∙ sym lo) in
-              subst (λ (x : List ℕ). Repairs r old (done (n ∷ [])) x) (sym same)
-              (subst (λ (m : ℕ). Repairs r old (done (m ∷ [])) s) (sym c)
+              subst (λ (x : List ℕ). Repairs r old a x) (sym (h .gives))
+              (subst (λ (x : Say). Repairs r old x s) (sym (h .says))
               (handed-out lr lo (candidate-sought r s (the-candidate q) (sym (g .0) ∙ m))))
           by false q m = absurd (false≢true m)
+
+pub ruleset ways = (on-incoming, on-outgoing, on-none, on-found)
+
+-- what is copied between equal lengths is handed out
+pub handed : (r s old new : List ℕ) (k : Bool) (n : ℕ) → (length s ≡ 2352) × (length old ≡ 2352) → (k ≡ eqb (length s) (length old)) × (new ≡ cond k s old)
+    → n ≡ changes r s → HandsOut r s (done (n ∷ [])) new
+handed r s old new k n l e c =
+    record { says = ap (λ (m : ℕ). done (m ∷ [])) c; gives = same-lengths k (length s) (length old) new s old e (l .0 ∙ sym (l .1)) }

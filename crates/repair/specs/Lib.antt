@@ -1,4 +1,4 @@
+-- what repair answers and hands out
 pub mod Repair
-pub mod Laws
-pub mod Candidate
-pub mod Certificate
+-- contracts of private functions
+pub mod Inner

@@ -6,14 +6,20 @@ use Prim.Native.Nat.{ℕ, _<_, _≤_}
 use lib.ListN.{length}
 use Rattle.outcome.specs.Say.{Say, done, refused, cleared}
 use Rattle.codeword.specs.Code.{changes}
-use Rattle.rspc.specs.Words.{pWord}
+use Rattle.rspc.specs.Words.{pWords, pWord}
 use Rattle.sector.specs.Correct.{CorrectMode01}
 use Rattle.repair.specs.declared.Repaired.{Repaired}
 use Rattle.repair.specs.declared.Repaired.the-variants.{HandedOut, WrongIncoming, WrongOutgoing, NoSectorNear}
+pub mod One
+pub mod Exact
+pub mod Clean
+pub mod Blind
+pub mod Certificate
+pub mod Told
 
 -- s differs from what came in, r, in at most one byte of each P codeword; Sync and Q parity are in none, so they do not count
 abbrev pub NearP : List ℕ → List ℕ → Type 0
-NearP r s = (n : ℕ) → n < 86 → changes (pWord r n) (pWord s n) ≤ 1
+NearP r s = (n : ℕ) → n < pWords → changes (pWord r n) (pWord s n) ≤ 1
 
 -- the Sector that is sought
 pub record Sought (r s : List ℕ) : Type 0 where

@@ -7,7 +7,7 @@ ghost use Prim.Native.Nat.{min};
 ghost use Rattle.codeword.specs.Code.{changes};
 ghost use Rattle.outcome.specs.Bytes.{Bytes};
 ghost use Rattle.repair.specs.Repair.{Repairs, sayOf};
-ghost use Rattle.repair.specs.Candidate.{rules, FoundFor};
+ghost use Rattle.repair.specs.Inner.Candidate.{rules, FoundFor, HandsOut};
 use address::HeaderTime;
 
 // What becomes of a Sector: it is handed out with the count of changed bytes, or refused.
@@ -78,11 +78,20 @@ fn candidate(received: &[u8]) -> Found
 {
     let mut s = sector::blank();
     outcome::copy(received, &mut s);
-    let near = rspc::p_pass(&mut s);
+    let near = mending::p_pass(&mut s);
     let sync = sector::sync_field();
     outcome::copy(&sync, &mut s[..12]);
-    rspc::put_q(&mut s);
+    parities::put_q(&mut s);
     Found { near, sector: s }
+}
+
+// The Sector `s` handed out for what came in, with the count of its bytes that changed.
+fn hand_out(received: &[u8], s: &[u8], out: &mut [u8]) -> Repaired
+    requires { ⌜ (length (now s) ≡ 2352) × (length (now out) ≡ 2352) ⌝ }
+    ensures { λ r. ⌜ HandsOut (now (received .entry)) (now (s .entry)) (sayOf r) (now (out .exit)) ⌝ }
+{
+    outcome::copy(s, out);
+    Repaired::HandedOut(count_changes(received, s))
 }
 
 // Hands out the one correct Sector of Mode 01 that differs from what came in in at most one byte of each P codeword, with the count
@@ -105,6 +114,5 @@ pub fn repair(received: &[u8], out: &mut [u8]) -> Repaired
         outcome::clear(out);
         return Repaired::NoSectorNear;
     }
-    outcome::copy(&s, out);
-    Repaired::HandedOut(count_changes(received, &s))
+    hand_out(received, &s, out)
 }

@@ -1,11 +1,8 @@
+-- the codewords of Annex A
 pub mod Words
-pub mod Cover
-pub mod Parity
+-- what is done to a Sector in place: parity put in, and P words mended
 pub mod Place
-pub mod Pass
-pub mod Mend
 pub mod Put
-pub mod ParityRows
-pub mod Gather
-pub mod PassLaws
-pub mod PutLaws
+pub mod Pass
+-- how the code goes over them
+pub mod Columns

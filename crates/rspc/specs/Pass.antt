@@ -8,8 +8,9 @@ use Prim.Native.Nat.{ℕ, _<_}
 use lib.ListN.{length, take, drop}
 use Rattle.outcome.specs.Table.{allBelow}
 use Rattle.codeword.specs.Nearest.{nearest}
-use Rattle.rspc.specs.Words.{pWord}
+use Rattle.rspc.specs.Words.{pWords, pWord}
 use Rattle.rspc.specs.Place.{InPlace}
+pub mod One
 
 -- the codeword that was found, or the word w as it came
 abbrev pub foundOr : List ℕ → Option (List ℕ) → List ℕ
@@ -26,14 +27,14 @@ handedOn w = foundOr w (nearest 2 w)
 
 -- each P codeword of a Sector has a codeword near
 unfoldable pub pNear : List ℕ → Bool
-pNear s = allBelow (λ n. isFound (nearest 2 (pWord s n))) 86
+pNear s = allBelow (λ n. isFound (nearest 2 (pWord s n))) pWords
 
 -- t is the Sector s after the pass
 pub record PPassed (s t : List ℕ) : Type 0 where
   pub long : length t ≡ length s
   pub before : take 12 t ≡ take 12 s
   pub after : drop 2248 t ≡ drop 2248 s
-  pub words : (n : ℕ) → n < 86 → pWord t n ≡ handedOn (pWord s n)
+  pub words : (n : ℕ) → n < pWords → pWord t n ≡ handedOn (pWord s n)
 
 -- the pass in place, with whether each word had a codeword near
 abbrev pub PPass : List ℕ → Bool → List ℕ → Type 0

@@ -4,22 +4,24 @@
 use mathlib.Core.Path.{_≡_}
 use mathlib.Core.Bool.{Bool, true}
 use mathlib.Core.List.{List}
-use Prim.Native.Nat.{ℕ, _<_}
+use Prim.Native.Nat.{ℕ}
 use lib.ListN.{length, take, drop}
-use Rattle.codeword.specs.Code.{Codeword}
-use Rattle.rspc.specs.Words.{pWord, qWord}
+use Rattle.rspc.specs.Words.{PCodewords, QCodewords}
 use Rattle.rspc.specs.Place.{InPlace}
+pub mod One
 
+-- t is the Sector s with its P parity put right
 pub record PPut (s t : List ℕ) : Type 0 where
   pub long : length t ≡ length s
   pub before : take 2076 t ≡ take 2076 s
   pub after : drop 2248 t ≡ drop 2248 s
-  pub words : (n : ℕ) → n < 86 → Codeword 2 (pWord t n)
+  pub words : PCodewords t
 
+-- t is the Sector s with its Q parity put right
 pub record QPut (s t : List ℕ) : Type 0 where
   pub long : length t ≡ length s
   pub before : take 2248 t ≡ take 2248 s
-  pub words : (n : ℕ) → n < 52 → Codeword 2 (qWord t n)
+  pub words : QCodewords t
 
 -- in place
 abbrev pub PutP : List ℕ → Bool → List ℕ → Type 0

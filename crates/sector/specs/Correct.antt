@@ -3,14 +3,14 @@
 use mathlib.Core.Path.{_≡_}
 use mathlib.Core.Bool.{true}
 use mathlib.Core.List.{List}
-use Prim.Native.Nat.{ℕ, _≤_, _<_}
+use Prim.Native.Nat.{ℕ, _≤_}
 use lib.ListN.{length, take, drop}
 use Rattle.outcome.specs.Bytes.{Bytes}
-use Rattle.codeword.specs.Code.{Codeword}
 use Rattle.edc.specs.Edc.{Divisible}
-use Rattle.rspc.specs.Words.{pWord, qWord}
+use Rattle.rspc.specs.Words.{PCodewords, QCodewords}
 use Rattle.address.specs.Address.{inRange}
 use Rattle.sector.specs.Layout.{sync, bytesFrom, timeOf, modeOf, zeros}
+pub mod Whole
 
 -- the rules that every mode shares
 pub record Head (s : List ℕ) : Type 0 where
@@ -27,8 +27,8 @@ Empty s = drop 16 s ≡ zeros 2336
 pub record Protected (s : List ℕ) : Type 0 where
   pub edc : Divisible (take 2068 s)
   pub intermediate : bytesFrom 2068 8 s ≡ zeros 8
-  pub p : (n : ℕ) → n < 86 → Codeword 2 (pWord s n)
-  pub q : (n : ℕ) → n < 52 → Codeword 2 (qWord s n)
+  pub p : PCodewords s
+  pub q : QCodewords s
 
 -- a correct Sector of any mode
 pub record Correct (s : List ℕ) : Type 0 where

@@ -1,13 +1,12 @@
 -- The fields of a Sector (clause 14): 2,352 bytes.
 -- Assumes nothing.
-use mathlib.Core.Path.{_≡_, sym, ap, _∙_}
 use mathlib.Core.Bool.{cond}
 use mathlib.Core.List.{List, [], _∷_}
-use Prim.Native.Nat.{ℕ, zero, suc, _-_}
-use native.Mathlib.Nat.{sub-zero, zero-sub, suc-sub-suc}
+use Prim.Native.Nat.{ℕ}
 use lib.Dec.{eqb}
-use lib.ListN.{length, take, drop, getD, replicate, length-replicate}
+use lib.ListN.{take, drop, getD, replicate}
 use Rattle.address.specs.declared.HeaderTime.{HeaderTime}
+pub mod Zeros
 
 -- 14.1, bytes 0 to 11: (00), ten (FF), (00)
 abbrev pub sync : List ℕ
@@ -34,13 +33,3 @@ userData s = bytesFrom 16 (userLength (modeOf s)) s
 -- n bytes (00)
 unfoldable pub zeros : ℕ → List ℕ
 zeros n = replicate n 0
-
-pub length-zeros : (n : ℕ) → length (zeros n) ≡ n
-unfolding zeros
-length-zeros n = length-replicate {A = ℕ} n 0
-
-pub drop-zeros : (n m : ℕ) → drop n (zeros m) ≡ zeros (m - n)
-unfolding zeros
-drop-zeros zero m = ap (λ (k : ℕ). replicate k 0) (sym (sub-zero m))
-drop-zeros (suc n) zero = ap (λ (k : ℕ). replicate k 0) (sym (zero-sub (suc n)))
-drop-zeros (suc n) (suc m) = drop-zeros n m ∙ ap (λ (k : ℕ). replicate k 0) (sym (suc-sub-suc m n))

@@ -1,4 +1,4 @@
+-- the fields of a Sector (clause 14)
 pub mod Layout
+-- what makes a Sector correct
 pub mod Correct
-pub mod Same
-pub mod Whole

@@ -16,7 +16,9 @@ use Rattle.outcome.specs.Table.{tabulated}
 use Rattle.xor.specs.Lists.{added}
 use Rattle.codeword.specs.Code.{sum}
 use Rattle.sweep.specs.Columns.{column, columnSums, allSums}
-use Rattle.sweep.specs.Rows.{risen, length-sums, more-0, more-1}
+use Rattle.sweep.specs.Columns.Sums.{length-sums}
+use Rattle.sweep.specs.Inner.Rise.{risen}
+use Rattle.sweep.proofs.Rows.{more-0, more-1}
 
 -- rows of w bytes up to the place `at` are passed
 pub record Sweeping (rows : List ℕ) (w at : ℕ) (s0 s1 : List ℕ) : Type 0 where

@@ -1,16 +1,16 @@
 -- Codewords that stand side by side: a matrix of bytes, row after row, whose columns are the words. Row r of P words is 86 bytes
 -- of a Sector in a row (Annex A), so the sums of all of them are made in one pass over the rows.
 -- Assumes nothing.
-use mathlib.Core.Path.{_≡_, ap, _∙_}
-use mathlib.Core.Bool.{Bool, true, false, cond, _&&_}
+use mathlib.Core.Path.{_≡_}
+use mathlib.Core.Bool.{Bool, cond, _&&_}
 use mathlib.Core.List.{List}
-use Prim.Native.Nat.{ℕ, _+_, _*_, _/_, _<_}
-use native.Mathlib.Omega.{arith}
-use borrow.Author.Tests.{eq-eqb, ne-eqb, lt-ltb, le-ltb}
+use Prim.Native.Nat.{ℕ, _+_, _*_, _/_}
 use lib.Dec.{eqb, ltb}
 use lib.ListN.{length, getD}
 use Rattle.outcome.specs.Table.{tabulated}
 use Rattle.codeword.specs.Code.{sum}
+pub mod Fit
+pub mod Sums
 
 -- the n bytes in column k of rows of w bytes
 unfoldable pub column : ℕ → ℕ → List ℕ → ℕ → List ℕ
@@ -33,22 +33,3 @@ pub record Swept (rows a b : List ℕ) (r : Bool) (a′ b′ : List ℕ) : Type 
   pub answer : r ≡ fitting a b
   pub first : a′ ≡ cond r (allSums 0 (length a) rows) a
   pub second : b′ ≡ cond r (allSums 1 (length a) rows) b
-
--- ---- when two lists of sums fit
-
-pub fit : (a b : List ℕ) → length a ≡ length b → 0 < length a → fitting a b ≡ true
-fit a b e p = rw (eq-eqb (length a) (length b) e, lt-ltb 0 (length a) p)
-
-pub unlike-lengths : (a b : List ℕ) → (length a ≡ length b → ⊥) → fitting a b ≡ false
-unlike-lengths a b n = rw (ne-eqb (length a) (length b) n)
-
-pub no-columns : (a b : List ℕ) → length a ≡ length b → length a ≡ 0 → fitting a b ≡ false
-no-columns a b e z = rw (eq-eqb (length a) (length b) e, le-ltb 0 (length a) (omega arith))
-
--- then they become the sums
-module _ {rows a b a′ b′ : List ℕ} {r : Bool} (s : Swept rows a b r a′ b′) (e : length a ≡ length b) (p : 0 < length a) where
-  pub swept-0 : a′ ≡ allSums 0 (length a) rows
-  swept-0 = s .first ∙ ap (λ (t : Bool). cond t (allSums 0 (length a) rows) a) (s .answer ∙ fit a b e p)
-
-  pub swept-1 : b′ ≡ allSums 1 (length a) rows
-  swept-1 = s .second ∙ ap (λ (t : Bool). cond t (allSums 1 (length a) rows) b) (s .answer ∙ fit a b e p)

@@ -1,2 +1,4 @@
+-- words side by side, and their sums
 pub mod Columns
-pub mod Rows
+-- contracts of private functions
+pub mod Inner

@@ -3,7 +3,7 @@ ghost use mathlib.Core.Path.{_≡_};
 ghost use Prim.Native.Nat.{_<_};
 ghost use lib.ListN.{length};
 ghost use Rattle.sweep.specs.Columns.{Swept, allSums};
-ghost use Rattle.sweep.specs.Rows.{risen};
+ghost use Rattle.sweep.specs.Inner.Rise.{risen};
 use field::times_alpha;
 use outcome::clear;
 

@@ -1,3 +1,8 @@
+-- a Sector laid out, protected and made
 pub mod LayOut
+pub mod Laying
+pub mod Protects
 pub mod Protecting
+pub mod Making
+-- the ways out
 pub mod Ways

@@ -13,7 +13,8 @@ use Rattle.outcome.specs.Part.{part-back}
 use Rattle.edc.specs.Edc.{edc}
 use Rattle.edc.specs.Laws.{length-edc}
 use Rattle.rspc.specs.Put.{PPut, PutP, PutQ}
-use Rattle.writer.specs.Protect.{Protects, withEdc, length-with, protects}
+use Rattle.writer.specs.Inner.Protect.{Protects}
+use Rattle.writer.proofs.Protects.{withEdc, length-with, protects}
 
 module _ (l : List ℕ) (long : length l ≡ 2352) where
   pub edc-copied : (e q : List ℕ) (k : Bool) → e ≡ edc (take 2064 l)

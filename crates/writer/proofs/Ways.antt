@@ -13,7 +13,7 @@ use Rattle.outcome.specs.Lengths.{same-lengths}
 use Rattle.address.specs.Address.{inRange}
 use Rattle.address.specs.declared.HeaderTime.{HeaderTime}
 use Rattle.sector.specs.Layout.{userLength}
-use Rattle.writer.specs.Make.{Makes}
+use Rattle.writer.specs.Inner.Make.{Makes}
 use Rattle.writer.specs.Write.{Asked, says, Writes, refuses, writes}
 
 module _ (mode : ℕ) (time : HeaderTime) (user old : List ℕ) where
@@ -45,3 +45,5 @@ module _ (mode : ℕ) (time : HeaderTime) (user old : List ℕ) where
             let same : new ≡ s = same-lengths c (length s) (length old) new s old e (g .long ∙ sym l) in
             writes (simp (eq-eqb (length old) 2352 l, le-leb mode 2 m, eq-eqb (length user) (userLength mode) (u ∙ hk), t))
             (subst (λ (x : List ℕ). Asked mode time user x) (sym same) (g .asked (subst (λ (x : List ℕ). Bytes x) same b)))
+
+pub ruleset ways = (on-outgoing, on-mode, on-incoming, on-address)

@@ -1,5 +1,4 @@
+-- what the writer answers and writes
 pub mod Write
-pub mod Laws
-pub mod Laid
-pub mod Protect
-pub mod Make
+-- contracts of private functions
+pub mod Inner

@@ -12,6 +12,8 @@ use Rattle.sector.specs.Correct.{Correct}
 use Rattle.writer.specs.declared.Written.{Written}
 use Rattle.writer.specs.declared.Written.the-variants.{Done, WrongOutgoing, UnknownMode, WrongIncoming, WrongAddress}
 use Rattle.address.specs.declared.HeaderTime.{HeaderTime}
+pub mod One
+pub mod Told
 
 -- the Sector that is asked for: correct, with this mode, address and user data
 pub record Asked (mode : ℕ) (time : HeaderTime) (user s : List ℕ) : Type 0 where

@@ -4,9 +4,9 @@ ghost use Prim.Native.Nat.{_≤_};
 ghost use lib.ListN.{length};
 ghost use Rattle.sector.specs.Layout.{userLength};
 ghost use Rattle.writer.specs.Write.{Writes, sayOf};
-ghost use Rattle.writer.specs.Laid.{front, laid};
-ghost use Rattle.writer.specs.Protect.{Protects};
-ghost use Rattle.writer.specs.Make.{Askable, Makes};
+ghost use Rattle.writer.specs.Inner.Laid.{front, laid};
+ghost use Rattle.writer.specs.Inner.Protect.{Protects};
+ghost use Rattle.writer.specs.Inner.Make.{Askable, Makes};
 use address::HeaderTime;
 
 // Sync, address and mode.
@@ -53,8 +53,8 @@ fn protect(laid: [u8; 2352]) -> [u8; 2352]
     let mut s = laid;
     let check = edc::parity(&s[..2064]);
     outcome::copy(&check, &mut s[2064..2068]);
-    rspc::put_p(&mut s);
-    rspc::put_q(&mut s);
+    parities::put_p(&mut s);
+    parities::put_q(&mut s);
     s
 }
 

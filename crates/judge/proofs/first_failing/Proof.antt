@@ -8,7 +8,8 @@ use borrow.Author.Count.{below-more}
 use borrow.Author.Needs.{needs}
 use lib.ListN.{getD}
 use Rattle.outcome.specs.Bytes.{Bytes}
-use Rattle.judge.specs.Judging.{wordsOf, rowsOf, wordOf, failing}
+use Rattle.judge.specs.Judging.{wordsOf, wordOf, failing}
+use Rattle.judge.specs.Inner.Places.{rowsOf}
 use Rattle.judge.proofs.Codewords.{words-le, rows-le, word-long, word-bytes, word-at, place-lt}
 use Rattle.judge.proofs.Search.{Summing, summing-none, summing-more, passes, fails-first, fails-second, NoneBelow, ends-at, ends-past}
 use Rattle.judge.proofs.first_failing.Statement.{statement}

@@ -1,24 +1,24 @@
 -- `judge::judge` meets its contract: each way out is a law of `Ways`.
 -- Assumes nothing.
 use borrow.Author.Needs.{needs}
-use Rattle.judge.proofs.Ways.{on-length, on-sync, on-mode, on-address, by-mode}
+use Rattle.judge.proofs.Ways.{ways}
 use Rattle.judge.proofs.judge.Statement.{statement}
 use Rattle.judge.proofs.judge.Tie as tie
 
 returns : tie.Need-returns
-returns c = search on-length
+returns c = search ways
 
 sync-right-requires : tie.Need-sync-right-requires
 sync-right-requires c κs = search needs
 
 returns-2 : tie.Need-returns-2
-returns-2 c = search on-sync
+returns-2 c = search ways
 
 shared-slice-read-mode : tie.Need-shared-slice-read-mode
 shared-slice-read-mode c = search needs
 
 returns-3 : tie.Need-returns-3
-returns-3 c = search on-mode
+returns-3 c = search ways
 
 shared-slice-read-t8 : tie.Need-shared-slice-read-t8
 shared-slice-read-t8 c = search needs
@@ -33,13 +33,13 @@ in-range-requires : tie.Need-in-range-requires
 in-range-requires c κs = search needs
 
 returns-4 : tie.Need-returns-4
-returns-4 c = search on-address
+returns-4 c = search ways
 
 judge-by-mode-requires : tie.Need-judge-by-mode-requires
 judge-by-mode-requires c κs = search needs
 
 returns-5 : tie.Need-returns-5
-returns-5 c = search by-mode
+returns-5 c = search ways
 
 pub judge-spec : {M : Type 1} → statement M
 judge-spec =

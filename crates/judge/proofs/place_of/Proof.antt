@@ -4,7 +4,7 @@ use mathlib.Core.Path.{sym, ap}
 use Prim.Native.Nat.{_/_}
 use borrow.Author.Needs.{needs}
 use Rattle.rspc.specs.Words.{place}
-use Rattle.rspc.specs.Cover.{q-data, q-parity}
+use Rattle.rspc.specs.Words.Q.{q-data, q-parity}
 use Rattle.judge.proofs.place_of.Statement.{statement}
 use Rattle.judge.proofs.place_of.Tie as tie
 

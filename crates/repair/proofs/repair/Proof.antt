@@ -1,8 +1,7 @@
 -- `repair::repair` meets its contract: each way out is a law of `Ways`.
 -- Assumes nothing.
-use mathlib.Core.Path.{refl}
+use Rattle.repair.proofs.Ways.{ways}
 use borrow.Author.Needs.{needs}
-use Rattle.repair.proofs.Ways.{on-incoming, on-outgoing, on-none, on-found}
 use Rattle.repair.proofs.repair.Statement.{statement}
 use Rattle.repair.proofs.repair.Tie as tie
 
@@ -13,10 +12,10 @@ same-length : tie.Need-same-length
 same-length c = search needs
 
 returns : tie.Need-returns
-returns c = on-incoming _ _ _ (c .before .before .before .before .if1 .taken) (c .before .before .wipe .ensures)
+returns c = search ways
 
 returns-2 : tie.Need-returns-2
-returns-2 c = on-outgoing _ _ _ (c .before .if1 .left) (c .if2 .taken) refl
+returns-2 c = search ways
 
 candidate-requires : tie.Need-candidate-requires
 candidate-requires c κs = search needs
@@ -34,28 +33,19 @@ same-length-2 : tie.Need-same-length-2
 same-length-2 c = search needs
 
 returns-3 : tie.Need-returns-3
-returns-3 c =
-    on-none _ _ _ (c .before .before .before .before .before .before .before .before .before .before .if1 .left) (c .before .before .before .before .before .before .before .before .before .if2 .left) _ _ (c .before .before .before .before .before .before .before .before .candidate .ensures) _ (c .before .before .before .before .before .rules-right .ensures) (c .before .before .before .before .if3 .taken) (c .before .before .clear .ensures)
+returns-3 c = search ways
 
-slice-aggregate-copy : tie.Need-slice-aggregate-copy
-slice-aggregate-copy c = search needs
+slice-aggregate-hand-out : tie.Need-slice-aggregate-hand-out
+slice-aggregate-hand-out c = search needs
 
-copy-requires : tie.Need-copy-requires
-copy-requires c κs = search needs
-
-slice-aggregate-count-changes : tie.Need-slice-aggregate-count-changes
-slice-aggregate-count-changes c = search needs
-
-count-changes-requires : tie.Need-count-changes-requires
-count-changes-requires c κs = search needs
+hand-out-requires : tie.Need-hand-out-requires
+hand-out-requires c κs = search needs
 
 same-length-3 : tie.Need-same-length-3
 same-length-3 c = search needs
 
 returns-4 : tie.Need-returns-4
-returns-4 c =
-    on-found _ _ _ (c .before .before .before .before .before .before .before .before .before .before .before .before .before .if1 .left) (c .before .before .before .before .before .before .before .before .before .before .before .before .if2 .left) _ _ (c .before .before .before .before .before .before .before .before .before .before .before .candidate .ensures) _ (c .before .before .before .before .before .before .before .before .rules-right .ensures) (c .before .before .before .before .before .before .before .if3 .left) _ (c .before .before .before .before .copy .ensures) _
-    (c .count-changes .ensures)
+returns-4 c = search ways
 
 pub repair-spec : {M : Type 1} → statement M
 repair-spec =
@@ -71,9 +61,7 @@ repair-spec =
     clear-requires
     same-length-2
     returns-3
-    slice-aggregate-copy
-    copy-requires
-    slice-aggregate-count-changes
-    count-changes-requires
+    slice-aggregate-hand-out
+    hand-out-requires
     same-length-3
     returns-4)

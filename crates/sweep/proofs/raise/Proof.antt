@@ -9,7 +9,8 @@ use lib.Bits.{bitXor}
 use lib.ListN.{length, getD}
 use Rattle.outcome.specs.Fill.{Filling, filling-none, filling-long, filling-more, filling-all, filling-rest}
 use Rattle.field.specs.Field.{timesAlpha}
-use Rattle.sweep.specs.Rows.{risen, length-risen, risen-at}
+use Rattle.sweep.specs.Inner.Rise.{risen}
+use Rattle.sweep.proofs.Rows.{length-risen, risen-at}
 use Rattle.sweep.proofs.raise.Statement.{statement}
 use Rattle.sweep.proofs.raise.Tie as tie
 

@@ -2,7 +2,7 @@
 -- Assumes nothing.
 use mathlib.Core.Path.{refl, sym}
 use borrow.Author.Needs.{needs}
-use Rattle.sweep.specs.Columns.{fit, unlike-lengths, no-columns}
+use Rattle.sweep.specs.Columns.Fit.{fit, unlike-lengths, no-columns}
 use Rattle.sweep.proofs.sums.Statement.{statement}
 use Rattle.sweep.proofs.sums.Tie as tie
 

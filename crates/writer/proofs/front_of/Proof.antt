@@ -1,9 +1,7 @@
 use mathlib.Core.Path.{refl}
-use Rattle.writer.specs.Laid.{front}
+use Rattle.writer.specs.Inner.Laid.{front}
 use Rattle.writer.proofs.front_of.Statement.{statement}
 use Rattle.writer.proofs.front_of.Tie as tie
-use Rattle.writer.proofs.front_of.Reads as reads
-use Rattle.writer.proofs.front_of.Lts as lts
 
 -- src/lib.rt:10:1
 returns : tie.Need-returns

@@ -5,7 +5,7 @@ use native.Mathlib.Omega.{arith}
 use borrow.Author.Needs.{needs}
 use lib.ListN.{length}
 use lib.Seq.{length-take-le}
-use Rattle.sector.specs.Layout.{length-zeros}
+use Rattle.sector.specs.Layout.Zeros.{length-zeros}
 use Rattle.writer.proofs.LayOut.{laid-out, first-copied, user-fits, user-copied}
 use Rattle.writer.proofs.lay_out.Statement.{statement}
 use Rattle.writer.proofs.lay_out.Tie as tie

@@ -1,7 +1,7 @@
 -- `writer::make` meets its contract: each mode is a law of `Make`.
 -- Assumes nothing.
 use borrow.Author.Needs.{needs}
-use Rattle.writer.specs.Make.{has-room, makes-plain, makes-mode01}
+use Rattle.writer.proofs.Making.{has-room, makes-plain, makes-mode01}
 use Rattle.writer.proofs.make.Statement.{statement}
 use Rattle.writer.proofs.make.Tie as tie
 

@@ -5,7 +5,7 @@ use native.Mathlib.Omega.{arith}
 use borrow.Author.Needs.{needs}
 use lib.ListN.{length}
 use lib.Seq.{length-take-le}
-use Rattle.writer.specs.Protect.{length-with}
+use Rattle.writer.proofs.Protects.{length-with}
 use Rattle.writer.proofs.Protecting.{edc-copied, both-put}
 use Rattle.writer.proofs.protect.Statement.{statement}
 use Rattle.writer.proofs.protect.Tie as tie

@@ -3,12 +3,12 @@
 use mathlib.Core.Path.{sym, _∙_}
 use borrow.Author.Needs.{needs}
 use borrow.Author.Tests.{not-false}
-use Rattle.writer.proofs.Ways.{on-outgoing, on-mode, on-incoming, on-address, on-done}
+use Rattle.writer.proofs.Ways.{ways, on-done}
 use Rattle.writer.proofs.write.Statement.{statement}
 use Rattle.writer.proofs.write.Tie as tie
 
 returns : tie.Need-returns
-returns c = search on-outgoing
+returns c = search ways
 
 wipe-requires : tie.Need-wipe-requires
 wipe-requires c κs = search needs
@@ -17,7 +17,7 @@ same-length : tie.Need-same-length
 same-length c = search needs
 
 returns-2 : tie.Need-returns-2
-returns-2 c = search on-mode
+returns-2 c = search ways
 
 user-length-requires : tie.Need-user-length-requires
 user-length-requires c κs = search needs
@@ -29,7 +29,7 @@ same-length-2 : tie.Need-same-length-2
 same-length-2 c = search needs
 
 returns-3 : tie.Need-returns-3
-returns-3 c = search on-incoming
+returns-3 c = search ways
 
 in-range-requires : tie.Need-in-range-requires
 in-range-requires c κs = search needs
@@ -41,7 +41,7 @@ same-length-3 : tie.Need-same-length-3
 same-length-3 c = search needs
 
 returns-4 : tie.Need-returns-4
-returns-4 c = search on-address
+returns-4 c = search ways
 
 make-requires : tie.Need-make-requires
 make-requires c κs = record { known = c .before .before .before .before .if2 .left; fits = c .before .before .if3 .left ∙ c .before .before .before .user-length .ensures; range = sym (c .before .in-range .ensures) ∙ not-false _ (c .if4 .left) }

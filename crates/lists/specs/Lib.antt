@@ -1,0 +1,5 @@
+-- lists compared, and one laid into another
+pub mod Same
+pub mod Laid
+-- parts of lists
+pub mod Agree

@@ -1,0 +1,1 @@
+// Lists of bytes: definitions and laws only.

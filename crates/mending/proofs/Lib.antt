@@ -1,0 +1,4 @@
+-- the P words as columns, a word mended, and the pass over all of them
+pub mod PRows
+pub mod Mending
+pub mod Passing

@@ -1,0 +1,113 @@
+// Parity of P and Q put into a Sector (Annex A). The codewords stand side by side in rows, so their sums are made in one sweep over
+// the rows.
+ghost use mathlib.Core.Path.{_≡_};
+ghost use mathlib.Core.List.{_++_};
+ghost use Prim.Native.Nat.{_+_, _%_, _<_, _≤_};
+ghost use lib.ListN.{length};
+ghost use Rattle.lists.specs.Laid.{Laid};
+ghost use Rattle.parities.specs.Inner.Gather.{qRow, qRows};
+ghost use Rattle.parities.specs.Inner.ParityRows.{ParityRows};
+ghost use Rattle.rspc.specs.Put.{PutP, PutQ};
+use codeword::parity_from_sums;
+use outcome::copy;
+
+// The two rows that make a codeword of each column of `rows`: their sums come first, and each pair of sums becomes parity.
+fn parity_rows(rows: &[u8], p0: &mut [u8], p1: &mut [u8])
+    requires { ⌜ (length (now p0) ≡ length (now p1)) × (0 < length (now p0)) ⌝ }
+    ensures { λ _. ⌜ ParityRows (length (now (p0 .entry))) (now (rows .entry)) (now (p0 .exit)) (now (p1 .exit)) ⌝ }
+{
+    sweep::sums(rows, p0, p1);
+    let mut k: usize = 0;
+    while k < p0.len() {
+        let p = parity_from_sums(p0[k], p1[k]);
+        p0[k] = p.0;
+        p1[k] = p.1;
+        k += 1;
+    }
+}
+
+// The rows `p0` and `p1` one behind the other in `s`, from byte `at` on.
+fn lay(s: &mut [u8], at: usize, p0: &[u8], p1: &[u8])
+    requires { ⌜ at + length (now p0) + length (now p1) ≤ length (now s) ⌝ }
+    ensures { λ _. ⌜ Laid at (now (p0 .entry) ++ now (p1 .entry)) (now (s .entry)) (now (s .exit)) ⌝ }
+{
+    let middle = at + p0.len();
+    let end = middle + p1.len();
+    copy(p0, &mut s[at..middle]);
+    copy(p1, &mut s[middle..end]);
+}
+
+// The P parity, bytes 2,076 to 2,247, is put right and the answer is true. Where there are not 2,352 bytes nothing changes and the
+// answer is false.
+pub fn put_p(s: &mut [u8]) -> bool
+    ensures { λ r. ⌜ PutP (now (s .entry)) r (now (s .exit)) ⌝ }
+{
+    if s.len() != 2352 {
+        return false;
+    }
+    let mut p0 = [0u8; 86];
+    let mut p1 = [0u8; 86];
+    parity_rows(&s[12..2076], &mut p0, &mut p1);
+    lay(s, 2076, &p0, &p1);
+    true
+}
+
+// The words of P and Q before the Q parity.
+const WORDS: usize = 1118;
+
+// The word 43 further on, with the first after the last.
+fn next_word(word: usize) -> usize
+    requires { ⌜ word < 1118 ⌝ }
+    ensures { λ r. ⌜ r ≡ (word + 43) % 1118 ⌝ }
+{
+    let next = word + 43;
+    if next < WORDS {
+        return next;
+    }
+    next - WORDS
+}
+
+// Row m: codeword d begins with word 43d, and from there byte m is 44m words further on.
+fn gather_row(s: &[u8], m: usize, row: &mut [u8])
+    requires { ⌜ (length (now s) ≡ 2352) × (m < 43) × (length (now row) ≡ 52) ⌝ }
+    ensures { λ _. ⌜ now (row .exit) ≡ qRow (now (s .entry)) m ⌝ }
+{
+    let mut word = 44 * m % WORDS;
+    let mut d: usize = 0;
+    while d < 26 {
+        row[2 * d] = s[2 * word + 12];
+        row[2 * d + 1] = s[2 * word + 13];
+        word = next_word(word);
+        d += 1;
+    }
+}
+
+// All 43 rows.
+fn gather(s: &[u8], rows: &mut [u8])
+    requires { ⌜ (length (now s) ≡ 2352) × (length (now rows) ≡ 2236) ⌝ }
+    ensures { λ _. ⌜ now (rows .exit) ≡ qRows (now (s .entry)) ⌝ }
+{
+    let mut m: usize = 0;
+    while m < 43 {
+        let at = 52 * m;
+        gather_row(s, m, &mut rows[at..at + 52]);
+        m += 1;
+    }
+}
+
+// The Q parity, bytes 2,248 to 2,351, is put right and the answer is true. Where there are not 2,352 bytes nothing changes and the
+// answer is false.
+pub fn put_q(s: &mut [u8]) -> bool
+    ensures { λ r. ⌜ PutQ (now (s .entry)) r (now (s .exit)) ⌝ }
+{
+    if s.len() != 2352 {
+        return false;
+    }
+    let mut rows = [0u8; 2236];
+    gather(s, &mut rows);
+    let mut p0 = [0u8; 52];
+    let mut p1 = [0u8; 52];
+    parity_rows(&rows, &mut p0, &mut p1);
+    lay(s, 2248, &p0, &p1);
+    true
+}

@@ -1,0 +1,82 @@
+-- The Q words of a Sector: each of bytes 2,248 to 2,351 is parity of exactly one, and the rest of a word lies in bytes 12 to 2,247.
+-- Assumes nothing.
+use mathlib.Core.Path.{_≡_, sym, ap, _∙_}
+use mathlib.Core.Logic.{_⊎_, inl, inr}
+use mathlib.Core.List.{List}
+use Prim.Native.Nat.{ℕ, _+_, _-_, _*_, _/_, _%_, _<_, _≤_}
+use native.Mathlib.Omega.{arith}
+use borrow.Author.Tests.{lt-ltb, le-ltb}
+use lib.ListN.{length, getD}
+use lib.Seq.{ext-getD}
+use Rattle.outcome.specs.Bytes.{Bytes}
+use Rattle.outcome.specs.Table.{tabulated-at, length-tabulated, bytes-tabulated}
+use Rattle.outcome.specs.First.{lt-or-le}
+use Rattle.rspc.specs.Words.{qNumber, qWords, qPlace, qWord, SameCovered, SameQParity}
+
+-- a Q word has 45 bytes
+pub length-q : (s : List ℕ) (n : ℕ) → length (qWord s n) ≡ 45
+unfolding qWord
+length-q s n = length-tabulated (λ m. getD s (qPlace n m) 0) 0 45
+
+-- and these are they
+pub q-at : (s : List ℕ) (n m : ℕ) → m < 45 → getD (qWord s n) m 0 ≡ getD s (qPlace n m) 0
+unfolding qWord
+q-at s n m h = tabulated-at (λ m. getD s (qPlace n m) 0) 45 m h
+
+-- of bytes it is a word of bytes
+pub bytes-q : (s : List ℕ) (n : ℕ) → Bytes s → Bytes (qWord s n)
+unfolding qWord
+bytes-q s n h = bytes-tabulated (λ m. getD s (qPlace n m) 0) 0 45 (λ m. h (qPlace n m))
+
+-- the words before the parity, and the two of the parity
+pub q-data : (d m : ℕ) → m < 43 → qNumber d m ≡ (44 * m + 43 * d) % 1118
+q-data d m h = rw (lt-ltb m 43 h)
+
+pub q-parity : (d m : ℕ) → 43 ≤ m → qNumber d m ≡ 1118 + 26 * (m - 43) + d
+q-parity d m h = rw (le-ltb m 43 h)
+
+-- the bytes of a Q codeword before its parity are from 12 to 2,247
+pub q-front : (s t : List ℕ) (n m : ℕ) → n < qWords → m < 43 → SameCovered s t → getD (qWord s n) m 0 ≡ getD (qWord t n) m 0
+q-front s t n m h l c =
+    q-at s n m (omega arith)
+    ∙ c (qPlace n m) (omega arith) (omega (arith, q-data (n % 26) m l))
+    ∙ sym (q-at t n m (omega arith))
+
+-- a Q word is what the covered bytes and the Q parity make it
+pub q-same : (s t : List ℕ) (n : ℕ) → n < qWords → SameCovered s t → SameQParity s t → qWord s n ≡ qWord t n
+q-same s t n h c q =
+    ext-getD 0 (qWord s n) (qWord t n) (length-q s n ∙ sym (length-q t n)) (λ m l. at m (omega (arith, length-q s n)) (lt-or-le m 43))
+  where
+    at : (m : ℕ) → m < 45 → (m < 43) ⊎ (43 ≤ m) → getD (qWord s n) m 0 ≡ getD (qWord t n) m 0
+    at m l (inl k) = q-front s t n m h k c
+    at m l (inr k) =
+        q-at s n m l
+        ∙ q (qPlace n m) (omega (arith, q-parity (n % 26) m k)) (omega (arith, q-parity (n % 26) m k))
+        ∙ sym (q-at t n m l)
+
+-- the Q codeword of byte 2,248 + i; its place there is 43 + i / 52
+abbrev qOf : ℕ → ℕ
+qOf i = 26 * (i % 2) + i % 52 / 2
+
+q-of-lt : (i : ℕ) → qOf i < qWords
+q-of-lt i = omega arith
+
+q-of-place : (i : ℕ) → qPlace (qOf i) (43 + i / 52) ≡ 2248 + i
+q-of-place i =
+    let a : i % 52 % 2 ≡ i % 2 = omega arith in
+    let d : qOf i / 26 ≡ i % 2 = omega arith in
+    let e : qOf i % 26 ≡ i % 52 / 2 = omega arith in
+    let p : qNumber (qOf i % 26) (43 + i / 52) ≡ 1118 + 26 * (43 + i / 52 - 43) + qOf i % 26 = q-parity (qOf i % 26) (43 + i / 52) (omega arith) in
+    omega arith
+
+q-of-at : (s : List ℕ) (i : ℕ) → i < 104 → getD (qWord s (qOf i)) (43 + i / 52) 0 ≡ getD s (2248 + i) 0
+q-of-at s i h = q-at s (qOf i) (43 + i / 52) (omega arith) ∙ ap (λ (k : ℕ). getD s k 0) (q-of-place i)
+
+-- and each byte of the Q parity stands in one
+pub q-covers : (s t : List ℕ) → ((n : ℕ) → n < qWords → qWord s n ≡ qWord t n) → SameQParity s t
+q-covers s t h i l m =
+    let e : 2248 + (i - 2248) ≡ i = omega arith in
+    let j : i - 2248 < 104 = omega arith in
+    ap (λ (k : ℕ). getD s k 0) (sym e) ∙ sym (q-of-at s (i - 2248) j)
+    ∙ ap (λ (w : List ℕ). getD w (43 + (i - 2248) / 52) 0) (h (qOf (i - 2248)) (q-of-lt (i - 2248)))
+    ∙ q-of-at t (i - 2248) j ∙ ap (λ (k : ℕ). getD t k 0) e

@@ -1,0 +1,2 @@
+-- a field and the bytes in its place
+pub mod Compared

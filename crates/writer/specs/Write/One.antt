@@ -1,0 +1,144 @@
+-- What is written is correct, and it is the only Sector that is so: for Mode 01 the EDC, P and Q bytes are the only ones that
+-- make it correct.
+-- Assumes nothing.
+use mathlib.Core.Path.{_≡_, refl, sym, ap, _∙_, subst}
+use mathlib.Core.Logic.{_⊎_, inl, inr}
+use mathlib.Core.List.{List}
+use Prim.Native.Nat.{ℕ, zero, suc, _+_, _-_, _<_, _≤_}
+use native.Mathlib.Omega.{arith}
+use lib.ListN.{length, getD, take, drop, length-drop}
+use lib.Seq.{ext-getD, take-add, take-all, length-take-le}
+use Rattle.outcome.specs.Say.{Say, never}
+use Rattle.outcome.specs.Bytes.{Bytes, bytes-take, bytes-drop}
+use Rattle.outcome.specs.First.{lt-or-le}
+use Rattle.lists.specs.Agree.{same-front, same-back, same-take, same-between}
+use Rattle.edc.specs.Edc.{Divisible, edc}
+use Rattle.edc.specs.Laws.{edc-only}
+use Rattle.rspc.specs.Words.Parity.{p-one}
+use Rattle.sector.specs.Layout.{bytesFrom, timeOf, modeOf, userLength, userData}
+use Rattle.sector.specs.Correct.{Head, Protected, CorrectMode01}
+use Rattle.sector.specs.Correct.Whole.{covered-one}
+use Rattle.address.specs.declared.HeaderTime.{HeaderTime}
+use Rattle.writer.specs.Write.{Asked, Writes, refuses, writes}
+
+module _ {mode : ℕ} {time : HeaderTime} {user s t : List ℕ} (a : Asked mode time user s) (b : Asked mode time user t) where
+  same-mode : modeOf s ≡ modeOf t
+  same-mode = a .has-mode ∙ sym (b .has-mode)
+
+  same-time : timeOf s ≡ timeOf t
+  same-time = a .has-time ∙ sym (b .has-time)
+
+  -- Sync, address and mode
+  first-sixteen : (i : ℕ) → i < 16 → getD s i 0 ≡ getD t i 0
+  first-sixteen i h = at (lt-or-le i 12)
+    where
+      from : (k : ℕ) → 12 + k < 16 → getD s (12 + k) 0 ≡ getD t (12 + k) 0
+      from zero l = ap (λ (x : HeaderTime). x .0) same-time
+      from (suc zero) l = ap (λ (x : HeaderTime). x .1) same-time
+      from (suc (suc zero)) l = ap (λ (x : HeaderTime). x .2) same-time
+      from (suc (suc (suc zero))) l = same-mode
+      from (suc (suc (suc (suc k)))) l = absurd (omega arith)
+
+      at : (i < 12) ⊎ (12 ≤ i) → getD s i 0 ≡ getD t i 0
+      at (inl l) = same-front 12 s t (a .correct .head .synced ∙ sym (b .correct .head .synced)) i l
+      at (inr l) =
+          let e : 12 + (i - 12) ≡ i = omega arith in
+          subst (λ (j : ℕ). getD s j 0 ≡ getD t j 0) e (from (i - 12) (omega arith))
+
+  ls : length s ≡ 2352
+  ls = a .correct .head .long
+
+  lt : length t ≡ 2352
+  lt = b .correct .head .long
+
+  -- with equal bytes from 16 on, all are equal
+  by-rest : drop 16 s ≡ drop 16 t → s ≡ t
+  by-rest e = ext-getD 0 s t (ls ∙ sym lt) (λ i h. at i (lt-or-le i 16))
+    where
+      at : (i : ℕ) → (i < 16) ⊎ (16 ≤ i) → getD s i 0 ≡ getD t i 0
+      at i (inl l) = first-sixteen i l
+      at i (inr l) = same-back 16 s t e i l
+
+  same-user : userData s ≡ userData t
+  same-user = a .has-user ∙ sym (b .has-user)
+
+  mode-00 : mode ≡ 0 → s ≡ t
+  mode-00 e = by-rest (a .correct .mode00 (a .has-mode ∙ e) ∙ sym (b .correct .mode00 (b .has-mode ∙ e)))
+
+  -- the user data of a mode that has n bytes of it
+  user-of : (n : ℕ) → userLength mode ≡ n → bytesFrom 16 n s ≡ bytesFrom 16 n t
+  user-of n e =
+      ap (λ (k : ℕ). bytesFrom 16 k s) (sym (ap userLength (a .has-mode) ∙ e)) ∙ same-user
+      ∙ ap (λ (k : ℕ). bytesFrom 16 k t) (ap userLength (b .has-mode) ∙ e)
+
+  mode-02 : mode ≡ 2 → s ≡ t
+  mode-02 e =
+      by-rest
+      (sym (take-all 2336 (drop 16 s) (omega (arith, length-drop 16 s))) ∙ user-of 2336 (ap userLength e)
+      ∙ take-all 2336 (drop 16 t) (omega (arith, length-drop 16 t)))
+
+  mode-01 : mode ≡ 1 → s ≡ t
+  mode-01 e = covered-one s t cs ct (p-one s t (hs .bytes) (ht .bytes) protected (ps .p) (pt .p))
+    where
+      hs : Head s
+      hs = a .correct .head
+
+      ht : Head t
+      ht = b .correct .head
+
+      cs : CorrectMode01 s
+      cs = record { correct = a .correct; mode = a .has-mode ∙ e }
+
+      ct : CorrectMode01 t
+      ct = record { correct = b .correct; mode = b .has-mode ∙ e }
+
+      ps : Protected s
+      ps = a .correct .mode01 (a .has-mode ∙ e)
+
+      pt : Protected t
+      pt = b .correct .mode01 (b .has-mode ∙ e)
+
+      -- bytes 0 to 2,063
+      given : (i : ℕ) → i < 2064 → getD s i 0 ≡ getD t i 0
+      given i h = at (lt-or-le i 16)
+        where
+          at : (i < 16) ⊎ (16 ≤ i) → getD s i 0 ≡ getD t i 0
+          at (inl l) = first-sixteen i l
+          at (inr l) = same-between 16 2048 s t (user-of 2048 (ap userLength e)) i l (omega arith)
+
+      front : take 2064 s ≡ take 2064 t
+      front = same-take 2064 s t (ls ∙ sym lt) given
+
+      edc-of : (u : List ℕ) → length u ≡ 2352 → Bytes u → Divisible (take 2068 u) → bytesFrom 2064 4 u ≡ edc (take 2064 u)
+      edc-of u l h d =
+          edc-only (take 2064 u) (bytesFrom 2064 4 u) (length-take-le 4 (drop 2064 u) (omega (arith, length-drop 2064 u)))
+          (bytes-take 4 (drop 2064 u) (bytes-drop 2064 u h)) (subst (λ (w : List ℕ). Divisible w) (take-add 2064 4 u) d)
+
+      same-edc : bytesFrom 2064 4 s ≡ bytesFrom 2064 4 t
+      same-edc = edc-of s ls (hs .bytes) (ps .edc) ∙ ap edc front ∙ sym (edc-of t lt (ht .bytes) (pt .edc))
+
+      protected : (i : ℕ) → 12 ≤ i → i < 2076 → getD s i 0 ≡ getD t i 0
+      protected i l h = at (lt-or-le i 2064) (lt-or-le i 2068)
+        where
+          at : (i < 2064) ⊎ (2064 ≤ i) → (i < 2068) ⊎ (2068 ≤ i) → getD s i 0 ≡ getD t i 0
+          at (inl m) n = given i m
+          at (inr m) (inl n) = same-between 2064 4 s t same-edc i m (omega arith)
+          at (inr m) (inr n) = same-between 2068 8 s t (ps .intermediate ∙ sym (pt .intermediate)) i n (omega arith)
+
+-- only one Sector is asked for
+pub asked-one : {mode : ℕ} {time : HeaderTime} {user s t : List ℕ} → Asked mode time user s → Asked mode time user t → s ≡ t
+asked-one {mode} {s = s} {t = t} a b = by mode refl
+  where
+    by : (m : ℕ) → mode ≡ m → s ≡ t
+    by zero e = mode-00 a b e
+    by (suc zero) e = mode-01 a b e
+    by (suc (suc zero)) e = mode-02 a b e
+    by (suc (suc (suc m))) e = absurd (omega (arith, a .correct .known, a .has-mode))
+
+-- two outcomes that the promise allows coincide, the buffer included
+pub write-one : (mode : ℕ) (time : HeaderTime) (user old : List ℕ) {a b : Say} {s t : List ℕ} → Writes mode time user old a s → Writes mode time user old b t
+    → (a ≡ b) × (s ≡ t)
+write-one mode time user old (refuses e) (refuses f) = (sym e ∙ f, refl)
+write-one mode time user old (refuses e) (writes f q) = never (sym e ∙ f)
+write-one mode time user old (writes e p) (refuses f) = never (sym f ∙ e)
+write-one mode time user old (writes e p) (writes f q) = (refl, asked-one p q)
