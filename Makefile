@@ -14,11 +14,11 @@ run:
 
 test:
 	rt fmt --check
-	rt staticlib road
+	rt staticlib exports
 	cd second && cargo test --offline --release --quiet
 	rt ci
 
 bench:
-	rt staticlib road
+	rt staticlib exports
 	rt check report
 	cd second && cargo run --offline --release --quiet --bin bench

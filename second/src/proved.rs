@@ -1,4 +1,4 @@
-//! The proved crates, by the functions that crate `road` exports. An answer comes as a number: in the low byte 0 or document
+//! The proved crates, by the functions of crate `exports`. An answer comes as a number: in the low byte 0 or document
 //! 01's number of the refusal, above it the values that come with it, 12 bits each.
 
 mod runs;

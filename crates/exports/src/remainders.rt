@@ -1,0 +1,28 @@
+// The EDC.
+ghost use mathlib.Core.Path.{_≡_};
+ghost use Rattle.edc.specs.Bits.{bits, number};
+ghost use Rattle.edc.specs.Edc.{remainder, edc, isZero};
+ghost use Rattle.exports.specs.Coded.{lowBytes};
+use crate::numbers::four_bytes;
+
+#[no_mangle]
+pub extern "C" fn road_edc_remainder(bytes: &[u8]) -> u32
+    ensures { λ r. ⌜ r ≡ number (remainder (bits (now (bytes .entry)))) ⌝ }
+{
+    edc::remainder(bytes)
+}
+
+// The four bytes of the EDC field, the first the lowest.
+#[no_mangle]
+pub extern "C" fn road_edc_parity(bytes: &[u8]) -> u32
+    ensures { λ r. ⌜ lowBytes 4 r ≡ edc (now (bytes .entry)) ⌝ }
+{
+    four_bytes(edc::parity(bytes))
+}
+
+#[no_mangle]
+pub extern "C" fn road_edc_holds(bytes: &[u8]) -> bool
+    ensures { λ r. ⌜ r ≡ isZero (remainder (bits (now (bytes .entry)))) ⌝ }
+{
+    edc::holds(bytes)
+}
