@@ -1,3 +1,3 @@
-pub mod LowBytes
 pub mod Lent
+pub mod Leaving
 pub mod Running

@@ -1,4 +1,4 @@
-pub mod Coded
 pub mod Told
+pub mod Parities
 pub mod Runs
-pub mod Sections
+pub mod Coders

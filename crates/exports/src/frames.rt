@@ -1,14 +1,15 @@
 // Scrambling, and F1-frames.
 ghost use mathlib.Core.Path.{_≡_};
+ghost use mathlib.Core.List.{[]};
+ghost use Rattle.outcome.specs.Say.{outcome};
 ghost use Rattle.scrambling.specs.Entry.{sayOf};
 ghost use Rattle.scrambling.specs.Frames.{cutting, joining};
 ghost use Rattle.scrambling.specs.Scramble.{scrambling};
-ghost use Rattle.exports.specs.Coded.{coded};
-ghost use Rattle.exports.specs.Told.{Told, exactly};
+ghost use Rattle.exports.specs.Told.{numberOf, Told};
 use scrambling::Answer;
 
-fn code(a: Answer) -> u64
-    ensures { λ r. ⌜ r ≡ coded (sayOf a) ⌝ }
+fn tell(a: Answer) -> u8
+    ensures { λ r. ⌜ r ≡ numberOf (sayOf a) ⌝ }
 {
     match a {
         Answer::Done => 0,
@@ -18,22 +19,22 @@ fn code(a: Answer) -> u64
 }
 
 #[no_mangle]
-pub extern "C" fn road_scramble(sector: &[u8], out: &mut [u8]) -> u64
-    ensures { λ r. ⌜ Told (exactly (scrambling (now (sector .entry)) (now (out .entry)))) r (now (out .exit)) ⌝ }
+pub extern "C" fn road_scramble(sector: &[u8], out: &mut [u8]) -> u8
+    ensures { λ r. ⌜ Told 0 (λ say. outcome say (now (out .exit)) ≡ scrambling (now (sector .entry)) (now (out .entry))) r [] ⌝ }
 {
-    code(scrambling::scramble(sector, out))
+    tell(scrambling::scramble(sector, out))
 }
 
 #[no_mangle]
-pub extern "C" fn road_cut(scrambled: &[u8], out: &mut [u8]) -> u64
-    ensures { λ r. ⌜ Told (exactly (cutting (now (scrambled .entry)) (now (out .entry)))) r (now (out .exit)) ⌝ }
+pub extern "C" fn road_cut(scrambled: &[u8], out: &mut [u8]) -> u8
+    ensures { λ r. ⌜ Told 0 (λ say. outcome say (now (out .exit)) ≡ cutting (now (scrambled .entry)) (now (out .entry))) r [] ⌝ }
 {
-    code(scrambling::cut(scrambled, out))
+    tell(scrambling::cut(scrambled, out))
 }
 
 #[no_mangle]
-pub extern "C" fn road_join(frames: &[u8], out: &mut [u8]) -> u64
-    ensures { λ r. ⌜ Told (exactly (joining (now (frames .entry)) (now (out .entry)))) r (now (out .exit)) ⌝ }
+pub extern "C" fn road_join(frames: &[u8], out: &mut [u8]) -> u8
+    ensures { λ r. ⌜ Told 0 (λ say. outcome say (now (out .exit)) ≡ joining (now (frames .entry)) (now (out .entry))) r [] ⌝ }
 {
-    code(scrambling::join(frames, out))
+    tell(scrambling::join(frames, out))
 }

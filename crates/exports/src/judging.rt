@@ -1,47 +1,40 @@
 // Judging a Sector.
 ghost use mathlib.Core.Path.{_≡_};
-ghost use mathlib.Core.List.{[], _∷_};
-ghost use Rattle.outcome.specs.Say.{done, refused};
 ghost use Rattle.judge.specs.Judging.{judging, sayOf};
-ghost use Rattle.exports.specs.Coded.{coded};
+ghost use Rattle.exports.specs.Told.{Tells, Told};
 use judge::Judged;
 
-// Mode and address of a Sector that passes.
-fn passed(mode: u8, minute: u8, second: u8, frame: u8) -> u64
-    ensures { λ r. ⌜ r ≡ coded (done (mode ∷ minute ∷ second ∷ frame ∷ [])) ⌝ }
+// With a Sector that passes come its mode and address, with a codeword that fails its number.
+fn tell(a: Judged, values: &mut [u64; 4]) -> u8
+    ensures { λ r. ⌜ Tells 4 (sayOf a) r (now (values .exit)) ⌝ }
 {
-    256
-        * ((mode as u64)
-            + 4096 * ((minute as u64) + 4096 * ((second as u64) + 4096 * (frame as u64))))
-}
-
-// A refusal with the number of a codeword.
-fn refused_at(number: u8, n: usize) -> u64
-    ensures { λ r. ⌜ r ≡ coded (refused number (n ∷ [])) ⌝ }
-{
-    (number as u64) + 256 * ((n as u64) % 4096)
-}
-
-fn code(a: Judged) -> u64
-    ensures { λ r. ⌜ r ≡ coded (sayOf a) ⌝ }
-{
+    *values = [0, 0, 0, 0];
     match a {
-        Judged::Passed(mode, time) => passed(mode, time.0, time.1, time.2),
+        Judged::Passed(mode, time) => {
+            *values = [mode as u64, time.0 as u64, time.1 as u64, time.2 as u64];
+            0
+        }
         Judged::WrongIncoming => 1,
         Judged::UnknownMode => 3,
         Judged::WrongAddress => 4,
         Judged::WrongSync => 10,
         Judged::WrongEdc => 11,
         Judged::WrongIntermediate => 12,
-        Judged::WrongP(n) => refused_at(13, n),
-        Judged::WrongQ(n) => refused_at(14, n),
+        Judged::WrongP(n) => {
+            *values = [n as u64, 0, 0, 0];
+            13
+        }
+        Judged::WrongQ(n) => {
+            *values = [n as u64, 0, 0, 0];
+            14
+        }
         Judged::WrongFiller => 15,
     }
 }
 
 #[no_mangle]
-pub extern "C" fn road_judge(sector: &[u8]) -> u64
-    ensures { λ r. ⌜ r ≡ coded (judging (now (sector .entry))) ⌝ }
+pub extern "C" fn road_judge(sector: &[u8], values: &mut [u64; 4]) -> u8
+    ensures { λ r. ⌜ Told 4 (λ say. say ≡ judging (now (sector .entry))) r (now (values .exit)) ⌝ }
 {
-    code(judge::judge(sector))
+    tell(judge::judge(sector), values)
 }

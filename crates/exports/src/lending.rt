@@ -1,8 +1,8 @@
-// What a run of steps lends to each of them, and where it puts the answer.
+// What a run lends to each of its calls, and where the answer goes.
 ghost use mathlib.Core.Path.{_≡_};
+ghost use mathlib.Core.List.{[], _∷_};
 ghost use Prim.Native.Nat.{_+_, _-_, _≤_, min};
 ghost use lib.ListN.{length};
-ghost use Rattle.exports.specs.Coded.{lowBytes};
 
 // Where the part ends that begins at a place: it is as long as was asked, or to the end.
 pub(crate) fn end_of(at: usize, asked: u8, all: usize) -> usize
@@ -13,11 +13,11 @@ pub(crate) fn end_of(at: usize, asked: u8, all: usize) -> usize
     if n <= all - at { at + n } else { all }
 }
 
-// The two low bytes of an answer.
-pub(crate) fn put_answer(number: u64, pair: &mut [u8])
+// The number of an answer, and its value.
+pub(crate) fn put(number: u8, value: u8, pair: &mut [u8])
     requires { ⌜ length (now pair) ≡ 2 ⌝ }
-    ensures { λ _. ⌜ now (pair .exit) ≡ lowBytes 2 number ⌝ }
+    ensures { λ _. ⌜ now (pair .exit) ≡ number ∷ value ∷ [] ⌝ }
 {
-    pair[0] = (number % 256) as u8;
-    pair[1] = (number / 256 % 256) as u8;
+    pair[0] = number;
+    pair[1] = value;
 }

@@ -1,12 +1,10 @@
 // What programs in other languages call: each function hands over to one of the road and says the same.
-mod circ_reading;
-mod circ_writing;
+mod circ_runs;
 mod codewords;
 mod elements;
 mod frames;
 mod judging;
 mod lending;
-mod numbers;
 mod remainders;
 mod repairing;
 mod section_reading;

@@ -2,8 +2,6 @@
 ghost use mathlib.Core.Path.{_≡_};
 ghost use Rattle.edc.specs.Bits.{bits, number};
 ghost use Rattle.edc.specs.Edc.{remainder, edc, isZero};
-ghost use Rattle.exports.specs.Coded.{lowBytes};
-use crate::numbers::four_bytes;
 
 #[no_mangle]
 pub extern "C" fn road_edc_remainder(bytes: &[u8]) -> u32
@@ -12,12 +10,12 @@ pub extern "C" fn road_edc_remainder(bytes: &[u8]) -> u32
     edc::remainder(bytes)
 }
 
-// The four bytes of the EDC field, the first the lowest.
+// The four bytes of the EDC field.
 #[no_mangle]
-pub extern "C" fn road_edc_parity(bytes: &[u8]) -> u32
-    ensures { λ r. ⌜ lowBytes 4 r ≡ edc (now (bytes .entry)) ⌝ }
+pub extern "C" fn road_edc_parity(bytes: &[u8], field: &mut [u8; 4])
+    ensures { λ _. ⌜ now (field .exit) ≡ edc (now (bytes .entry)) ⌝ }
 {
-    four_bytes(edc::parity(bytes))
+    *field = edc::parity(bytes);
 }
 
 #[no_mangle]

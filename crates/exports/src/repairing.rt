@@ -1,16 +1,18 @@
 // Repair of a Sector.
-ghost use mathlib.Core.Path.{_≡_};
 ghost use Rattle.repair.specs.Repair.{Repairs, sayOf};
-ghost use Rattle.exports.specs.Coded.{coded};
-ghost use Rattle.exports.specs.Told.{Told};
+ghost use Rattle.exports.specs.Told.{Tells, Told};
 use repair::Repaired;
 
 // With a Sector that is handed out comes the count of changed bytes.
-fn code(a: Repaired) -> u64
-    ensures { λ r. ⌜ r ≡ coded (sayOf a) ⌝ }
+fn tell(a: Repaired, changed: &mut [u64; 1]) -> u8
+    ensures { λ r. ⌜ Tells 1 (sayOf a) r (now (changed .exit)) ⌝ }
 {
+    *changed = [0];
     match a {
-        Repaired::HandedOut(changed) => 256 * ((changed as u64) % 4096),
+        Repaired::HandedOut(count) => {
+            *changed = [count as u64];
+            0
+        }
         Repaired::WrongIncoming => 1,
         Repaired::WrongOutgoing => 2,
         Repaired::NoSectorNear => 5,
@@ -18,8 +20,8 @@ fn code(a: Repaired) -> u64
 }
 
 #[no_mangle]
-pub extern "C" fn road_repair(received: &[u8], out: &mut [u8]) -> u64
-    ensures { λ r. ⌜ Told (Repairs (now (received .entry)) (now (out .entry))) r (now (out .exit)) ⌝ }
+pub extern "C" fn road_repair(received: &[u8], out: &mut [u8], changed: &mut [u64; 1]) -> u8
+    ensures { λ r. ⌜ Told 1 (λ say. Repairs (now (received .entry)) (now (out .entry)) say (now (out .exit))) r (now (changed .exit)) ⌝ }
 {
-    code(repair::repair(received, out))
+    tell(repair::repair(received, out), changed)
 }

@@ -1,14 +1,15 @@
 // Writing a Section. The state is three numbers, so that a caller can hold it and begin with any.
 ghost use mathlib.Core.Path.{_≡_};
+ghost use mathlib.Core.List.{[]};
+ghost use Rattle.calls.specs.Step.{step};
 ghost use Rattle.channel.specs.State.{fresh};
 ghost use Rattle.channel.specs.WriteSay.{sayWritten, written};
-ghost use Rattle.exports.specs.Coded.{coded};
-ghost use Rattle.exports.specs.Sections.{WriteTold};
+ghost use Rattle.exports.specs.Told.{numberOf, Told};
 use channel::SectionWriter;
 use channel::SectionWritten;
 
-fn code(a: SectionWritten) -> u64
-    ensures { λ r. ⌜ r ≡ coded (sayWritten a) ⌝ }
+fn tell(a: SectionWritten) -> u8
+    ensures { λ r. ⌜ r ≡ numberOf (sayWritten a) ⌝ }
 {
     match a {
         SectionWritten::Done => 0,
@@ -40,9 +41,10 @@ pub extern "C" fn road_write_section(
     frames: &[u8],
     control: &[u8],
     out: &mut [u8],
-) -> u64
-    ensures { λ r. ⌜ WriteTold (written (record { dsv = now (dsv .entry); level = now (level .entry); sections = now (sections .entry) })
-        (now (frames .entry)) (now (control .entry)) (now (out .entry))) r (now (dsv .exit)) (now (level .exit)) (now (sections .exit)) (now (out .exit)) ⌝ }
+) -> u8
+    ensures { λ r. ⌜ Told 0 (λ say. step say (record { dsv = now (dsv .exit); level = now (level .exit); sections = now (sections .exit) }) (now (out .exit))
+        ≡ written (record { dsv = now (dsv .entry); level = now (level .entry); sections = now (sections .entry) }) (now (frames .entry)) (now (control .entry)) (now (out .entry)))
+        r [] ⌝ }
 {
     let writer = SectionWriter {
         dsv: *dsv,
@@ -57,5 +59,5 @@ pub extern "C" fn road_write_section(
     *level = next_level;
     *sections = next.sections;
     let answer = step.answer;
-    code(answer)
+    tell(answer)
 }

@@ -1,13 +1,13 @@
 // Writing a Sector.
 ghost use mathlib.Core.Path.{_≡_};
+ghost use mathlib.Core.List.{[]};
 ghost use Rattle.writer.specs.Write.{Writes, sayOf};
-ghost use Rattle.exports.specs.Coded.{coded};
-ghost use Rattle.exports.specs.Told.{Told};
+ghost use Rattle.exports.specs.Told.{numberOf, Told};
 use address::HeaderTime;
 use writer::Written;
 
-fn code(a: Written) -> u64
-    ensures { λ r. ⌜ r ≡ coded (sayOf a) ⌝ }
+fn tell(a: Written) -> u8
+    ensures { λ r. ⌜ r ≡ numberOf (sayOf a) ⌝ }
 {
     match a {
         Written::Done => 0,
@@ -26,8 +26,8 @@ pub extern "C" fn road_write(
     frame: u8,
     user: &[u8],
     out: &mut [u8],
-) -> u64
-    ensures { λ r. ⌜ Told (Writes mode (record { 0 = minute; 1 = second; 2 = frame }) (now (user .entry)) (now (out .entry))) r (now (out .exit)) ⌝ }
+) -> u8
+    ensures { λ r. ⌜ Told 0 (λ say. Writes mode (record { 0 = minute; 1 = second; 2 = frame }) (now (user .entry)) (now (out .entry)) say (now (out .exit))) r [] ⌝ }
 {
-    code(writer::write(mode, HeaderTime(minute, second, frame), user, out))
+    tell(writer::write(mode, HeaderTime(minute, second, frame), user, out))
 }
