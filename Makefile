@@ -16,7 +16,7 @@ test:
 	@tools/gate
 
 bench:
-	rt staticlib road
+	rt staticlib exports
 	rt check report
 	cd second && cargo run --offline --release --quiet --bin bench
 

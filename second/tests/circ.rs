@@ -1,7 +1,7 @@
 //! Runs of the proved CIRC writer and reader from a fresh state against this program's.
 
 use second::circ::{CircReader, CircWriter};
-use second::proved;
+use second::proved::{self, Told};
 use second::random::Random;
 
 const FRAMES: usize = 2_000;
@@ -15,7 +15,7 @@ type ProvedRun = fn(&[u8], &mut [u8], &mut [u8]);
 fn same(
     steps: &[Step],
     proved: ProvedRun,
-    mut step: impl FnMut(&[u8], &mut [u8]) -> u64,
+    mut step: impl FnMut(&[u8], &mut [u8]) -> [u8; 2],
 ) -> (Vec<[u8; 2]>, Vec<Vec<u8>>) {
     let mut incoming = Vec::new();
     let (mut answers, mut expected_answers) = (Vec::new(), Vec::new());
@@ -25,8 +25,7 @@ fn same(
         answers.extend([frame.len() as u8, *out_length as u8]);
         buffers.extend(vec![0xAA; *out_length]);
         let mut buffer = vec![0xAA; *out_length];
-        let answer = step(frame, &mut buffer);
-        expected_answers.push([answer as u8, (answer >> 8) as u8]);
+        expected_answers.push(step(frame, &mut buffer));
         expected_buffers.push(buffer);
     }
     proved(&incoming, &mut answers, &mut buffers);
@@ -37,13 +36,15 @@ fn same(
 
 fn written(steps: &[Step]) -> (Vec<[u8; 2]>, Vec<Vec<u8>>) {
     let mut writer = CircWriter::new();
-    same(steps, proved::circ_write, |frame, out| proved::coded_done(writer.step(frame, out)))
+    same(steps, proved::circ_write, |frame, out| [proved::number_of(writer.step(frame, out)), 0])
 }
 
 fn read(steps: &[Step]) -> (Vec<[u8; 2]>, Vec<Vec<u8>>) {
     let mut reader = CircReader::new();
     let step = |frame: &[u8], out: &mut [u8]| {
-        proved::coded(reader.step(frame, out), |doubt| vec![doubt as usize])
+        let answer: Told<1> =
+            proved::told_of(reader.step(frame, out), |doubt| vec![doubt as usize]);
+        [answer.number, answer.values[0] as u8]
     };
     same(steps, proved::circ_read, step)
 }

@@ -1,7 +1,7 @@
 //! Proved verdicts and parity against this program's brute force.
 
 use second::codeword::{fill, verdict};
-use second::proved;
+use second::proved::{self, Told};
 use second::random::Random;
 
 /// A codeword of random bytes, its parity of as many bytes as there are sums at the end.
@@ -11,16 +11,16 @@ fn codeword(random: &mut Random, length: usize, sums: usize) -> Vec<u8> {
     word
 }
 
-fn proved_verdict(word: &[u8], sums: usize) -> u64 {
+fn proved_verdict(word: &[u8], sums: usize) -> Told<2> {
     match sums {
         2 => proved::verdict_of_two(word),
         _ => proved::verdict_of_four(word),
     }
 }
 
-fn same_verdict(word: &[u8], sums: usize) -> u64 {
+fn same_verdict(word: &[u8], sums: usize) -> Told<2> {
     let found = proved_verdict(word, sums);
-    assert_eq!(found, proved::coded_verdict(verdict(word, sums)), "{sums} sums of {word:?}");
+    assert_eq!(found, proved::told_verdict(verdict(word, sums)), "{sums} sums of {word:?}");
     found
 }
 
@@ -33,7 +33,7 @@ fn ten_thousand(seed: u64, length: usize, sums: usize) {
         for place in random.places(n % 4, length) {
             word[place] ^= random.change();
         }
-        met[(same_verdict(&word, sums) % 4096) as usize] += 1;
+        met[same_verdict(&word, sums).number as usize] += 1;
     }
     assert!(met.iter().all(|&times| times >= 100), "{met:?}");
 }

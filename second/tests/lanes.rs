@@ -15,21 +15,21 @@ const LATE: usize = 111;
 
 /// What both programs do, each in its own way, over all Sectors, frames or Sections in a row.
 struct Lanes {
-    write: fn(u8, [u8; 3], &[u8], &mut [u8]) -> u64,
-    scramble: fn(&[u8], &mut [u8]) -> u64,
-    cut: fn(&[u8], &mut [u8]) -> u64,
-    join: fn(&[u8], &mut [u8]) -> u64,
+    write: fn(u8, [u8; 3], &[u8], &mut [u8]) -> u8,
+    scramble: fn(&[u8], &mut [u8]) -> u8,
+    cut: fn(&[u8], &mut [u8]) -> u8,
+    join: fn(&[u8], &mut [u8]) -> u8,
     circ_write: fn(&[u8]) -> Vec<u8>,
     circ_read: fn(&[u8]) -> Vec<u8>,
-    write_section: fn(&mut SectionWriter, &[u8], &[u8], &mut [u8]) -> u64,
-    read_section: fn(&[u8], &mut [u8], &mut [u8]) -> u64,
+    write_section: fn(&mut SectionWriter, &[u8], &[u8], &mut [u8]) -> u8,
+    read_section: fn(&[u8], &mut [u8], &mut [u8]) -> u8,
 }
 
 const SECOND: Lanes = Lanes {
-    write: |mode, address, data, out| proved::coded_done(write(mode, address, data, out)),
-    scramble: |sector, out| proved::coded_done(scramble(sector, out)),
-    cut: |scrambled, out| proved::coded_done(cut(scrambled, out)),
-    join: |frames, out| proved::coded_done(join(frames, out)),
+    write: |mode, address, data, out| proved::number_of(write(mode, address, data, out)),
+    scramble: |sector, out| proved::number_of(scramble(sector, out)),
+    cut: |scrambled, out| proved::number_of(cut(scrambled, out)),
+    join: |frames, out| proved::number_of(join(frames, out)),
     circ_write: |frames| {
         let mut writer = CircWriter::new();
         let mut all = Vec::new();
@@ -51,9 +51,9 @@ const SECOND: Lanes = Lanes {
         all
     },
     write_section: |state, frames, control, out| {
-        proved::coded_done(state.write(frames, control, out))
+        proved::number_of(state.write(frames, control, out))
     },
-    read_section: |channel, bytes, marks| proved::coded_done(read_section(channel, bytes, marks)),
+    read_section: |channel, bytes, marks| proved::number_of(read_section(channel, bytes, marks)),
 };
 
 const PROVED: Lanes = Lanes {
@@ -64,7 +64,7 @@ const PROVED: Lanes = Lanes {
     circ_write: |frames| run(proved::circ_write, frames, 24, 32),
     circ_read: |frames| run(proved::circ_read, frames, 32, 24),
     write_section: proved::write_section,
-    read_section: proved::read_section,
+    read_section: |channel, bytes, marks| proved::read_section(channel, bytes, marks).number,
 };
 
 /// A run in which every step is done, without doubt.
@@ -77,7 +77,7 @@ fn run(steps: fn(&[u8], &mut [u8], &mut [u8]), frames: &[u8], from: u8, to: u8) 
     out
 }
 
-fn each(bytes: &[u8], step: fn(&[u8], &mut [u8]) -> u64) -> Vec<u8> {
+fn each(bytes: &[u8], step: fn(&[u8], &mut [u8]) -> u8) -> Vec<u8> {
     let mut all = vec![0; bytes.len()];
     for (sector, out) in bytes.chunks(LENGTH).zip(all.chunks_mut(LENGTH)) {
         assert_eq!(step(sector, out), 0);

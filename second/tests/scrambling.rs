@@ -1,13 +1,13 @@
 //! Proved scrambling and F1-frames against this program, which makes the sequence by the register.
 
-use second::proved::{self, coded_done};
+use second::proved::{self, number_of};
 use second::random::Random;
 use second::refusal::Refusal;
 use second::scrambling::{cut, join, scramble, sequence};
 use second::sector::LENGTH;
 
 type Step = fn(&[u8], &mut [u8]) -> Result<(), Refusal>;
-type ProvedStep = fn(&[u8], &mut [u8]) -> u64;
+type ProvedStep = fn(&[u8], &mut [u8]) -> u8;
 
 const STEPS: [(Step, ProvedStep); 3] =
     [(scramble, proved::scramble), (cut, proved::cut), (join, proved::join)];
@@ -15,7 +15,7 @@ const STEPS: [(Step, ProvedStep); 3] =
 /// Both steps from buffers that held (AA): the same answer and the same bytes.
 fn same(step: (Step, ProvedStep), incoming: &[u8], out_length: usize) -> Vec<u8> {
     let (mut expected, mut found) = (vec![0xAA; out_length], vec![0xAA; out_length]);
-    let answer = coded_done((step.0)(incoming, &mut expected));
+    let answer = number_of((step.0)(incoming, &mut expected));
     assert_eq!((step.1)(incoming, &mut found), answer);
     assert!(found == expected);
     found

@@ -1,5 +1,6 @@
 //! Runs of CIRC steps, and Sections.
 
+use super::{told, Told};
 use crate::channel::SectionWriter;
 
 extern "C" {
@@ -30,7 +31,7 @@ extern "C" {
         control_length: usize,
         out: *mut u8,
         out_length: usize,
-    ) -> u64;
+    ) -> u8;
     fn road_read_section(
         channel: *const u8,
         length: usize,
@@ -38,7 +39,8 @@ extern "C" {
         bytes_length: usize,
         marks: *mut u8,
         marks_length: usize,
-    ) -> u64;
+        frame: *mut [u64; 1],
+    ) -> u8;
 }
 
 /// A run of steps from a fresh writer. Two bytes for each step say how much of the frames and of the buffer it is lent, and
@@ -70,7 +72,7 @@ pub fn write_section(
     frames: &[u8],
     control: &[u8],
     out: &mut [u8],
-) -> u64 {
+) -> u8 {
     let SectionWriter { level, dsv, count } = state;
     let (bytes, length) = (frames.as_ptr(), frames.len());
     let (control, control_length) = (control.as_ptr(), control.len());
@@ -90,9 +92,11 @@ pub fn write_section(
     }
 }
 
-pub fn read_section(channel: &[u8], bytes: &mut [u8], marks: &mut [u8]) -> u64 {
+pub fn read_section(channel: &[u8], bytes: &mut [u8], marks: &mut [u8]) -> Told<1> {
     let (bytes, bytes_length) = (bytes.as_mut_ptr(), bytes.len());
     let (marks, marks_length) = (marks.as_mut_ptr(), marks.len());
     let (channel, length) = (channel.as_ptr(), channel.len());
-    unsafe { road_read_section(channel, length, bytes, bytes_length, marks, marks_length) }
+    told(|frame| unsafe {
+        road_read_section(channel, length, bytes, bytes_length, marks, marks_length, frame)
+    })
 }

@@ -1,5 +1,7 @@
 //! Sectors, scrambling and F1-frames.
 
+use super::{told, Told};
+
 extern "C" {
     fn road_write(
         mode: u8,
@@ -10,36 +12,44 @@ extern "C" {
         length: usize,
         out: *mut u8,
         out_length: usize,
-    ) -> u64;
-    fn road_judge(sector: *const u8, length: usize) -> u64;
-    fn road_repair(received: *const u8, length: usize, out: *mut u8, out_length: usize) -> u64;
-    fn road_scramble(sector: *const u8, length: usize, out: *mut u8, out_length: usize) -> u64;
-    fn road_cut(scrambled: *const u8, length: usize, out: *mut u8, out_length: usize) -> u64;
-    fn road_join(frames: *const u8, length: usize, out: *mut u8, out_length: usize) -> u64;
+    ) -> u8;
+    fn road_judge(sector: *const u8, length: usize, values: *mut [u64; 4]) -> u8;
+    fn road_repair(
+        received: *const u8,
+        length: usize,
+        out: *mut u8,
+        out_length: usize,
+        changed: *mut [u64; 1],
+    ) -> u8;
+    fn road_scramble(sector: *const u8, length: usize, out: *mut u8, out_length: usize) -> u8;
+    fn road_cut(scrambled: *const u8, length: usize, out: *mut u8, out_length: usize) -> u8;
+    fn road_join(frames: *const u8, length: usize, out: *mut u8, out_length: usize) -> u8;
 }
 
-pub fn write(mode: u8, address: [u8; 3], data: &[u8], out: &mut [u8]) -> u64 {
+pub fn write(mode: u8, address: [u8; 3], data: &[u8], out: &mut [u8]) -> u8 {
     let [minute, second, frame] = address;
     let (user, length) = (data.as_ptr(), data.len());
     unsafe { road_write(mode, minute, second, frame, user, length, out.as_mut_ptr(), out.len()) }
 }
 
-pub fn judge(sector: &[u8]) -> u64 {
-    unsafe { road_judge(sector.as_ptr(), sector.len()) }
+pub fn judge(sector: &[u8]) -> Told<4> {
+    told(|values| unsafe { road_judge(sector.as_ptr(), sector.len(), values) })
 }
 
-pub fn repair(received: &[u8], out: &mut [u8]) -> u64 {
-    unsafe { road_repair(received.as_ptr(), received.len(), out.as_mut_ptr(), out.len()) }
+pub fn repair(received: &[u8], out: &mut [u8]) -> Told<1> {
+    let (received, length) = (received.as_ptr(), received.len());
+    let (out, out_length) = (out.as_mut_ptr(), out.len());
+    told(|changed| unsafe { road_repair(received, length, out, out_length, changed) })
 }
 
-pub fn scramble(sector: &[u8], out: &mut [u8]) -> u64 {
+pub fn scramble(sector: &[u8], out: &mut [u8]) -> u8 {
     unsafe { road_scramble(sector.as_ptr(), sector.len(), out.as_mut_ptr(), out.len()) }
 }
 
-pub fn cut(scrambled: &[u8], out: &mut [u8]) -> u64 {
+pub fn cut(scrambled: &[u8], out: &mut [u8]) -> u8 {
     unsafe { road_cut(scrambled.as_ptr(), scrambled.len(), out.as_mut_ptr(), out.len()) }
 }
 
-pub fn join(frames: &[u8], out: &mut [u8]) -> u64 {
+pub fn join(frames: &[u8], out: &mut [u8]) -> u8 {
     unsafe { road_join(frames.as_ptr(), frames.len(), out.as_mut_ptr(), out.len()) }
 }

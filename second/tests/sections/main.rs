@@ -5,7 +5,7 @@ mod reading;
 mod writing;
 
 use second::channel::*;
-use second::proved;
+use second::proved::{self, Told};
 use second::random::Random;
 
 fn same_written(
@@ -13,10 +13,10 @@ fn same_written(
     frames: &[u8],
     control: &[u8],
     out_length: usize,
-) -> (u64, Vec<u8>) {
+) -> (u8, Vec<u8>) {
     let (mut expected, mut found) = (vec![0xAA; out_length], vec![0xAA; out_length]);
     let mut proved_state = *state;
-    let answer = proved::coded_done(state.write(frames, control, &mut expected));
+    let answer = proved::number_of(state.write(frames, control, &mut expected));
     let proved_answer = proved::write_section(&mut proved_state, frames, control, &mut found);
     assert_eq!(proved_answer, answer);
     assert_eq!(proved_state, *state);
@@ -24,11 +24,11 @@ fn same_written(
     (answer, found)
 }
 
-fn same_read(channel: &[u8], lengths: [usize; 2]) -> (u64, [Vec<u8>; 2]) {
+fn same_read(channel: &[u8], lengths: [usize; 2]) -> (Told<1>, [Vec<u8>; 2]) {
     let mut expected = lengths.map(|length| vec![0xAA; length]);
     let mut found = expected.clone();
     let [bytes, marks] = &mut expected;
-    let answer = proved::coded_done(read_section(channel, bytes, marks));
+    let answer = proved::told_of(read_section(channel, bytes, marks), |()| vec![]);
     let [bytes, marks] = &mut found;
     assert_eq!(proved::read_section(channel, bytes, marks), answer);
     assert!(found == expected);

@@ -15,21 +15,21 @@ fn same_judged_and_repaired(received: &[u8]) -> Option<(usize, Vec<u8>)> {
             .map(usize::from)
             .to_vec()
     };
-    assert_eq!(proved::judge(received), proved::coded(judge(received), address));
+    assert_eq!(proved::judge(received), proved::told_of(judge(received), address));
     same_repaired(received, LENGTH)
 }
 
 fn same_repaired(received: &[u8], out_length: usize) -> Option<(usize, Vec<u8>)> {
     let (mut expected, mut found) = (vec![0xAA; out_length], vec![0xAA; out_length]);
     let answer = repair(received, &mut expected);
-    assert_eq!(proved::repair(received, &mut found), proved::coded(answer, |count| vec![count]));
+    assert_eq!(proved::repair(received, &mut found), proved::told_of(answer, |count| vec![count]));
     assert!(found == expected);
     answer.ok().map(|count| (count, found))
 }
 
 fn same_written(mode: u8, address: [u8; 3], data: &[u8], out_length: usize) -> Vec<u8> {
     let (mut expected, mut found) = (vec![0xAA; out_length], vec![0xAA; out_length]);
-    let answer = proved::coded_done(write(mode, address, data, &mut expected));
+    let answer = proved::number_of(write(mode, address, data, &mut expected));
     assert_eq!(proved::write(mode, address, data, &mut found), answer);
     assert!(found == expected);
     found

@@ -50,13 +50,13 @@ fn sectors() -> Vec<Work> {
     };
     let judged = clean.clone();
     let judge = move || {
-        assert_eq!(proved::judge(black_box(&judged)) as u8, 0);
+        assert_eq!(proved::judge(black_box(&judged)).number, 0);
     };
     let repair = |received: Vec<u8>, changed: u64| {
         let mut out = vec![0; 2352];
         move || {
             let answer = proved::repair(black_box(&received), black_box(&mut out));
-            assert_eq!(answer, changed << 8);
+            assert_eq!((answer.number, answer.values), (0, [changed]));
         }
     };
     let each = repair(damaged, P_CODEWORDS as u64);
@@ -69,7 +69,7 @@ fn sectors() -> Vec<Work> {
 }
 
 fn frames(sector: &[u8]) -> Vec<Work> {
-    type Step = fn(&[u8], &mut [u8]) -> u64;
+    type Step = fn(&[u8], &mut [u8]) -> u8;
     let steps: [(&'static str, Step); 3] = [
         ("scramble a Sector", proved::scramble),
         ("cut a Sector", proved::cut),
@@ -119,7 +119,8 @@ fn sections() -> Vec<Work> {
     };
     let (mut bytes, mut marks) = (vec![0; READ_BYTES], vec![0; READ_BYTES]);
     let read = move || {
-        assert_eq!(proved::read_section(black_box(&channel), &mut bytes, &mut marks), 0);
+        let answer = proved::read_section(black_box(&channel), &mut bytes, &mut marks);
+        assert_eq!(answer.number, 0);
     };
     vec![
         Work::new("write a Section", Some(40.0), write),

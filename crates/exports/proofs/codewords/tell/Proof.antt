@@ -1,0 +1,31 @@
+-- `codewords::tell` meets its contract: each arm is a case of `sayVerdict`, told.
+-- Assumes nothing.
+use borrow.Author.Needs.{needs}
+use mathlib.Core.Path.{refl}
+use Rattle.exports.proofs.codewords.tell.Statement.{statement}
+use Rattle.exports.proofs.codewords.tell.Tie as tie
+
+enum-told : tie.Need-enum-told
+enum-told c = search needs
+
+enum-known-v : tie.Need-enum-known-v
+enum-known-v c = search needs
+
+cast-t7 : tie.Need-cast-t7
+cast-t7 c = search needs
+
+enum-told-2 : tie.Need-enum-told-2
+enum-told-2 c = search needs
+
+returns : tie.Need-returns
+returns c = search needs
+
+returns-2 : tie.Need-returns-2
+returns-2 c = rw (c .before .before .v .given .1) (record { has-number = refl; has-values = refl })
+
+returns-3 : tie.Need-returns-3
+returns-3 c = search needs
+
+pub tell-spec : {M : Type 1} → statement M
+tell-spec =
+    tie.close (tie.spec enum-told enum-known-v cast-t7 enum-told-2 returns returns-2 returns-3)

@@ -1,0 +1,4 @@
+pub mod Told
+pub mod Parities
+pub mod Runs
+pub mod Coders

@@ -1,0 +1,68 @@
+// Codewords: the verdict on a word, and parity.
+ghost use mathlib.Core.Path.{_≡_};
+ghost use mathlib.Core.List.{_++_};
+ghost use lib.ListN.{take, drop};
+ghost use Rattle.codeword.specs.Nearest.{verdict};
+ghost use Rattle.codeword.specs.Parity.{Parity};
+ghost use Rattle.exports.specs.Told.{sayVerdict, Tells, Told};
+use codeword::Verdict;
+
+fn tell(v: Verdict, change: &mut [u64; 2]) -> u8
+    ensures { λ r. ⌜ Tells 2 (sayVerdict v) r (now (change .exit)) ⌝ }
+{
+    match v {
+        Verdict::Clean => {
+            *change = [0, 0];
+            0
+        }
+        Verdict::Change(i, b) => {
+            *change = [i as u64, b as u64];
+            1
+        }
+        Verdict::Lost => {
+            *change = [0, 0];
+            2
+        }
+    }
+}
+
+// A word of P or Q.
+#[no_mangle]
+pub extern "C" fn road_verdict_of_two(w: &[u8], change: &mut [u64; 2]) -> u8
+    ensures { λ r. ⌜ Told 2 (λ say. say ≡ sayVerdict (verdict 2 (now (w .entry)))) r (now (change .exit)) ⌝ }
+{
+    tell(codeword::verdict_of_two(w), change)
+}
+
+// A word of C1 or C2.
+#[no_mangle]
+pub extern "C" fn road_verdict_of_four(w: &[u8], change: &mut [u64; 2]) -> u8
+    ensures { λ r. ⌜ Told 2 (λ say. say ≡ sayVerdict (verdict 4 (now (w .entry)))) r (now (change .exit)) ⌝ }
+{
+    tell(codeword::verdict_of_four(w), change)
+}
+
+// The two bytes of parity behind a word.
+#[no_mangle]
+pub extern "C" fn road_parity_of_two(w: &[u8], parity: &mut [u8; 2])
+    ensures { λ _. ⌜ Parity 2 (now (parity .exit)) (now (w .entry) ++ now (parity .exit)) ⌝ }
+{
+    let p = codeword::parity_of_two(w);
+    *parity = [p.0, p.1];
+}
+
+// The four bytes of parity behind a word: C1.
+#[no_mangle]
+pub extern "C" fn road_parity_at_end(w: &[u8], parity: &mut [u8; 4])
+    ensures { λ _. ⌜ Parity 4 (now (parity .exit)) (now (w .entry) ++ now (parity .exit)) ⌝ }
+{
+    *parity = codeword::parity_at_end(w);
+}
+
+// The four bytes of parity at 12 to 15 of 28: C2.
+#[no_mangle]
+pub extern "C" fn road_parity_at_12(w: &[u8; 28], parity: &mut [u8; 4])
+    ensures { λ _. ⌜ Parity 4 (now (parity .exit)) (take 12 (now (w .entry)) ++ (now (parity .exit) ++ drop 16 (now (w .entry)))) ⌝ }
+{
+    *parity = codeword::parity_at_12(*w);
+}

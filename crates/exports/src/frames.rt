@@ -1,0 +1,40 @@
+// Scrambling, and F1-frames.
+ghost use mathlib.Core.Path.{_≡_};
+ghost use mathlib.Core.List.{[]};
+ghost use Rattle.outcome.specs.Say.{outcome};
+ghost use Rattle.scrambling.specs.Entry.{sayOf};
+ghost use Rattle.scrambling.specs.Frames.{cutting, joining};
+ghost use Rattle.scrambling.specs.Scramble.{scrambling};
+ghost use Rattle.exports.specs.Told.{numberOf, Told};
+use scrambling::Answer;
+
+fn tell(a: Answer) -> u8
+    ensures { λ r. ⌜ r ≡ numberOf (sayOf a) ⌝ }
+{
+    match a {
+        Answer::Done => 0,
+        Answer::WrongIncoming => 1,
+        Answer::WrongOutgoing => 2,
+    }
+}
+
+#[no_mangle]
+pub extern "C" fn road_scramble(sector: &[u8], out: &mut [u8]) -> u8
+    ensures { λ r. ⌜ Told 0 (λ say. outcome say (now (out .exit)) ≡ scrambling (now (sector .entry)) (now (out .entry))) r [] ⌝ }
+{
+    tell(scrambling::scramble(sector, out))
+}
+
+#[no_mangle]
+pub extern "C" fn road_cut(scrambled: &[u8], out: &mut [u8]) -> u8
+    ensures { λ r. ⌜ Told 0 (λ say. outcome say (now (out .exit)) ≡ cutting (now (scrambled .entry)) (now (out .entry))) r [] ⌝ }
+{
+    tell(scrambling::cut(scrambled, out))
+}
+
+#[no_mangle]
+pub extern "C" fn road_join(frames: &[u8], out: &mut [u8]) -> u8
+    ensures { λ r. ⌜ Told 0 (λ say. outcome say (now (out .exit)) ≡ joining (now (frames .entry)) (now (out .entry))) r [] ⌝ }
+{
+    tell(scrambling::join(frames, out))
+}

@@ -1,3 +1,0 @@
-pub mod LowBytes
-pub mod Lent
-pub mod Running

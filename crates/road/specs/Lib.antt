@@ -1,4 +1,0 @@
-pub mod Coded
-pub mod Told
-pub mod Runs
-pub mod Sections
