@@ -2,7 +2,7 @@
 -- Assumes nothing.
 use mathlib.Core.Path.{_≡_, refl}
 use mathlib.Core.List.{List, [], _∷_, _++_}
-use Prim.Native.Nat.{ℕ, _+_, _≤_, _<_}
+use Prim.Native.Nat.{ℕ, _+_, _<_}
 use native.Mathlib.Omega.{arith}
 use lib.ListN.{length, length-append}
 use Rattle.text.specs.declared.Counts.{Counts}
@@ -25,7 +25,6 @@ pub record Seen (fates : List Fate) (c : Counts) : Type 0 where
   pub clean : c .clean ≡ howMany isClean fates
   pub repaired : c .repaired ≡ howMany isRepaired fates
   pub refused : c .refused ≡ howMany isRefused fates
-  pub few : length fates ≤ largest
 
 -- ---- laws
 
@@ -42,7 +41,6 @@ see-none =
       clean = refl;
       repaired = refl;
       refused = refl;
-      few = omega arith;
     }
 
 -- a Sector that is counted is one more of them
@@ -50,14 +48,14 @@ pub see : {c : Counts} {fates : List Fate} {fate : Fate} (sector : List ℕ) →
     → c .sectors < largest → Seen (fates ++ (fate ∷ [])) (countedWith c fate)
 see {c} {fates} {fate} sector s l f h =
     let sum = counts-add-up fates in
-    let room : Room 1 c =
+    let room : Room c =
     record {
       sectors = omega arith;
       clean = omega (arith, s .all, s .clean, sum);
       repaired = omega (arith, s .all, s .repaired, sum);
       refused = omega (arith, s .all, s .refused, sum);
     } in
-    let o = counted-right 0 c room fate in
+    let o = counted-right c room fate in
     let longer : length (fates ++ (fate ∷ [])) ≡ length fates + 1 = length-append fates (fate ∷ []) in
     record {
       sectors = s .sectors ++ (sector ∷ []);
@@ -66,7 +64,6 @@ see {c} {fates} {fate} sector s l f h =
       clean = omega (arith, o .clean, s .clean, more-of isClean fates fate);
       repaired = omega (arith, o .repaired, s .repaired, more-of isRepaired fates fate);
       refused = omega (arith, o .refused, s .refused, more-of isRefused fates fate);
-      few = omega (arith, longer, s .all);
     }
 
 -- the counts of the last line add up to the Sectors seen
