@@ -1,46 +1,101 @@
--- The run of a report: each turn counts one Sector at most, so the counts of the last line add up.
+-- The run of a report: its steps, what each of them prints, and where it ends.
 -- Assumes nothing.
-use mathlib.Core.Path.{_≡_, refl, subst, sym}
-use mathlib.Core.Logic.{_⊎_, inl, inr}
-use Prim.Native.Nat.{ℕ, suc, _+_, _≤_}
-use native.Mathlib.Omega.{arith}
+use mathlib.Core.Path.{_≡_}
+use mathlib.Core.Bool.{Bool, true, false, cond}
+use mathlib.Core.List.{List, [], _++_}
+use Prim.Native.Nat.{ℕ, _<_}
+use lib.ListN.{length, take}
 use Rattle.text.specs.declared.Counts.{Counts}
 use Rattle.text.specs.declared.Fate.{Fate}
-use Rattle.text.specs.Counting.{largest, noneCounted, countedWith, Room, counted-right}
-use Rattle.text.specs.Report.{one-fate}
+use Rattle.text.specs.declared.Text.{Text}
+use Rattle.text.specs.Counting.{largest, noneCounted, countedWith}
+use Rattle.text.specs.Line.{Holds}
+use Rattle.text.specs.Report.{firstLine, fateLine, tailLine, lastLine}
+use Rattle.fate.specs.Fated.{Fated}
+use Rattle.reporting.specs.declared.Progress.{Progress}
+use Rattle.reporting.specs.declared.Stand.{Stand}
+use Rattle.reporting.specs.declared.Stand.the-variants.{Opening, Going, AtEnd, Closing, Done, ReadFailed, WriteFailed}
+pub mod Seen
+pub mod Printed
 
--- every Sector that was counted has one fate, and there are at most n of them
-pub record AddUp (n : ℕ) (c : Counts) : Type 0 where
-  pub total : c .clean + c .repaired + c .refused ≡ c .sectors
-  pub few : c .sectors ≤ n
+-- one step of a report: how it stands and what is counted before it, what it prints, and both after it
+pub data Step : Stand → Counts → List ℕ → Stand → Counts → Type 0 where
+  -- the first line
+  opens : Step Opening noneCounted firstLine Going noneCounted
+  -- a whole Sector's line, with the number of those before it, and then the Sector is counted with its fate
+  tells : {c : Counts} {fate : Fate} (sector : List ℕ) → length sector ≡ 2352 → Fated sector fate → c .sectors < largest
+      → Step Going c (fateLine (c .sectors) fate) Going (countedWith c fate)
+  -- the input's end, within a Sector
+  ends : {c : Counts} {left : ℕ} → left < 2352 → Step Going c [] (AtEnd left) c
+  -- a read that failed
+  unread : {c : Counts} → Step Going c [] ReadFailed c
+  -- the count of leftover bytes
+  counts-left : {c : Counts} {left : ℕ} → Step (AtEnd left) c (tailLine left) Closing c
+  -- the last line
+  closes : {c : Counts} → Step Closing c (lastLine (c .clean) (c .repaired) (c .refused)) Done c
+  -- a line of which not all, or nothing, could be written
+  unwritten : {s t : Stand} {c d : Counts} {line : List ℕ} (n : ℕ) → Step s c line t d → Step s c (take n line) WriteFailed c
 
--- the counts d after a turn from c: no Sector more, or one
-abbrev pub Onward : Counts → Counts → Type 0
-Onward c d = (d ≡ c) ⊎ ((fate : Fate) × (d ≡ countedWith c fate))
+-- one step, whatever it prints
+pub record Goes (s : Stand) (c : Counts) (t : Stand) (d : Counts) : Type 0 where
+  pub text : List ℕ
+  pub step : Step s c text t d
 
-pub none-add-up : (n : ℕ) → AddUp n noneCounted
-none-add-up n = record { total = refl; few = omega arith }
+-- all that was printed from the start to here
+pub data Run : List ℕ → Stand → Counts → Type 0 where
+  begins : Run [] Opening noneCounted
+  goes : {text line : List ℕ} {s t : Stand} {c d : Counts} → Run text s c → Step s c line t d → Run (text ++ line) t d
 
-pub at-most : {m n : ℕ} {c : Counts} → m ≤ n → AddUp m c → AddUp n c
-at-most h a = record { total = a .total; few = omega (arith, a .few) }
+-- the report is as far as this after some run
+pub record Reached (s : Stand) (c : Counts) : Type 0 where
+  pub text : List ℕ
+  pub run : Run text s c
 
-pub one-turn : (n : ℕ) (c d : Counts) → suc n ≤ largest → AddUp n c → Onward c d → AddUp (n + 1) d
-one-turn n c d l a (inl e) = subst (λ (x : Counts). AddUp (n + 1) x) (sym e) (record { total = a .total; few = omega (arith, a .few) })
-one-turn n c d l a (inr g) = subst (λ (x : Counts). AddUp (n + 1) x) (sym (g .1)) (more (g .0))
-  where
-    room : Room 1 c
-    room =
-        record {
-          sectors = omega (arith, a .few, a .total);
-          clean = omega (arith, a .few, a .total);
-          repaired = omega (arith, a .few, a .total);
-          refused = omega (arith, a .few, a .total);
-        }
+-- no Sector follows
+abbrev pub isOver : Stand → Bool
+isOver Opening = true
+isOver Going = false
+isOver (AtEnd left) = true
+isOver Closing = true
+isOver Done = true
+isOver ReadFailed = true
+isOver WriteFailed = true
 
-    more : (f : Fate) → AddUp (n + 1) (countedWith c f)
-    more f =
-        let o = counted-right 0 c room f in
-        record {
-          total = omega (arith, o .sectors, o .clean, o .repaired, o .refused, a .total, one-fate f);
-          few = omega (arith, o .sectors, a .few);
-        }
+-- after n turns: so many Sectors are counted if it goes on, and else the input ended or something failed
+abbrev pub Counted : ℕ → Stand → Counts → Type 0
+Counted n Opening c = ⊥
+Counted n Going c = c .sectors ≡ n
+Counted n (AtEnd left) c = Unit {0}
+Counted n Closing c = ⊥
+Counted n Done c = ⊥
+Counted n ReadFailed c = Unit {0}
+Counted n WriteFailed c = Unit {0}
+
+pub record Turning (n : ℕ) (p : Progress) : Type 0 where
+  pub reached : Reached (p .stand) (p .counts)
+  pub counted : Counted n (p .stand) (p .counts)
+
+-- the report is over: all is said, a read or a write failed, or no more Sectors can be counted
+abbrev pub Final : Stand → Counts → Type 0
+Final Opening c = ⊥
+Final Going c = c .sectors ≡ largest
+Final (AtEnd left) c = ⊥
+Final Closing c = ⊥
+Final Done c = Unit {0}
+Final ReadFailed c = Unit {0}
+Final WriteFailed c = Unit {0}
+
+pub record Reported (p : Progress) : Type 0 where
+  pub reached : Reached (p .stand) (p .counts)
+  pub final : Final (p .stand) (p .counts)
+
+-- the line of a Sector and the counts after it
+pub record Tells (c : Counts) (sector : List ℕ) (line : Text) (d : Counts) : Type 0 where
+  pub fate : Fate
+  pub fated : Fated sector fate
+  pub line-of : Holds (fateLine (c .sectors) fate) line
+  pub counts : d ≡ countedWith c fate
+
+-- how far a report is after a line that leads to q: there if all of it went out, and else at its end
+abbrev pub afterLine : Bool → Counts → Progress → Progress
+afterLine went c q = cond went q (record { counts = c; stand = WriteFailed })

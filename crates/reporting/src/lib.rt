@@ -1,126 +1,106 @@
-// The report (document 01) from standard input to standard output. It only reads, calls and writes: the fate of a Sector is decided
-// in `fate`, every character of a line in `text`.
+// The report (document 01) from standard input to standard output. What one read means stands in `reading`, what is printed and what
+// then follows in `saying`; the fate of a Sector is decided in `fate`, every character of a line in `text`.
+mod reading;
+mod saying;
+
 ghost use mathlib.Core.Path.{_≡_};
-ghost use mathlib.Core.Logic.{inl};
-ghost use Prim.Native.Nat.{_≤_};
-ghost use Rattle.reporting.specs.Run.{AddUp, Onward};
+ghost use Prim.Native.Nat.{_<_};
+ghost use lib.ListN.{length};
 ghost use Rattle.text.specs.Counting.{largest};
+ghost use Rattle.reporting.specs.Run.{Goes, isOver, Turning, Reported};
 use libc::STDERR_FILENO;
-use libc::STDIN_FILENO;
-use libc::STDOUT_FILENO;
 use text::Counts;
-use text::Text;
 
-// What was read into a buffer: all of it, a part before the input's end, or less because a read failed.
-enum Got {
-    Whole,
-    Part(usize),
-    Failed,
+// How a report stands: before its first line; between two Sectors; at the input's end with so many bytes left over; before its last
+// line; all said; or ended by a read or a write that failed.
+pub enum Stand {
+    Opening,
+    Going,
+    AtEnd(u64),
+    Closing,
+    Done,
+    ReadFailed,
+    WriteFailed,
 }
 
-// Reads until the buffer is full or the input ends; a read may bring less than was asked for.
-fn read_sector(buffer: &mut [u8]) -> Got {
-    let mut have: usize = 0;
-    while have < buffer.len() {
-        let got = libc::read(STDIN_FILENO, &mut buffer[have..]);
-        if got < 0 {
-            return Got::Failed;
-        }
-        let more = io::count(got, &buffer[have..]);
-        if more == 0 {
-            return Got::Part(have);
-        }
-        have += more;
-    }
-    Got::Whole
+// How far a report is: the Sectors counted, and how it stands.
+pub struct Progress {
+    pub counts: Counts,
+    pub stand: Stand,
 }
 
-// Writes a line, and says whether all of it went out.
-fn print(line: Text) -> bool
-    requires { ⌜ line .len ≤ 96 ⌝ }
+// Whether no Sector follows.
+fn over(stand: Stand) -> bool
+    ensures { λ r. ⌜ r ≡ isOver stand ⌝ }
 {
-    let n = line.len;
-    let bytes = line.bytes;
-    io::write_all(STDOUT_FILENO, &bytes[..n])
-}
-
-// How far the report is: the Sectors counted, the bytes left after the last whole one, whether there is more to read, and whether
-// all went well.
-struct Progress {
-    counts: Counts,
-    left: u64,
-    more: bool,
-    well: bool,
+    match stand {
+        Stand::Going => false,
+        Stand::Opening => true,
+        Stand::AtEnd(_) => true,
+        Stand::Closing => true,
+        Stand::Done => true,
+        Stand::ReadFailed => true,
+        Stand::WriteFailed => true,
+    }
 }
 
 // Reads one Sector and prints its line.
-fn turn(counts: Counts) -> Progress
-    ensures { λ r. ⌜ Onward counts (r .counts) ⌝ }
+fn turn(counts: Counts, sector: &mut [u8]) -> Progress
+    requires { ⌜ (length (now sector) ≡ 2352) × (counts .sectors < largest) ⌝ }
+    ensures { λ r. ⌜ Goes Stand.Going counts (r .stand) (r .counts) ⌝ }
 {
-    let mut sector = sector::blank();
-    let got = read_sector(&mut sector);
-    match got {
-        Got::Whole => {
-            let fate = fate::fate_of(&sector);
-            let shown = print(text::fate_line(counts.sectors, fate));
-            let counted = counts.counted(fate);
-            Progress {
-                counts: counted,
-                left: 0,
-                more: shown,
-                well: shown,
-            }
-        }
-        Got::Part(n) => Progress {
-            counts,
-            left: n as u64,
-            more: false,
-            well: true,
-        },
-        Got::Failed => {
-            io::write_all(STDERR_FILENO, b"report: standard input could not be read\n");
-            Progress {
-                counts,
-                left: 0,
-                more: false,
-                well: false,
-            }
-        }
+    let filled = reading::read_sector(sector);
+    let stand = reading::stand_after(filled);
+    if over(stand) {
+        return Progress { counts, stand };
     }
+    saying::tell(counts, sector)
 }
 
-// All turns. A loop has to end, so it counts them, to a number that no input reaches.
-fn turns() -> Progress
-    ensures { λ r. ⌜ AddUp largest (r .counts) ⌝ }
+// All turns. A loop has to end, so it counts them, to the largest number of Sectors that can be counted.
+fn turns(opened: Progress) -> Progress
+    requires { ⌜ Turning 0 opened ⌝ }
+    ensures { λ r. ⌜ Turning largest r ⌝ }
 {
-    let mut progress = Progress {
-        counts: Counts::none(),
-        left: 0,
-        more: true,
-        well: true,
-    };
+    let mut sector = sector::blank();
+    let mut progress = opened;
     let mut made: u64 = 0;
     while made < u64::MAX {
-        if !progress.more {
+        let stand = progress.stand;
+        if over(stand) {
             return progress;
         }
-        progress = turn(progress.counts);
+        let counts = progress.counts;
+        progress = turn(counts, &mut sector);
         made += 1;
     }
     progress
 }
 
-// Prints the report. Where reading or writing failed, nothing more is printed, so no last line says what was not seen. The counts of
-// the last line come back.
-pub fn report() -> Counts
-    ensures { λ r. ⌜ AddUp largest r ⌝ }
-{
-    print(text::first_line());
-    let progress = turns();
-    let counts = progress.counts;
-    if progress.well {
-        print(text::tail_line(progress.left));
-        print(text::last_line(counts.clean, counts.repaired, counts.refused));
+// Says on standard error what failed.
+fn complain(stand: Stand) {
+    match stand {
+        Stand::ReadFailed => {
+            io::write_all(STDERR_FILENO, b"report: standard input could not be read\n");
+        }
+        Stand::WriteFailed => {
+            io::write_all(
+                STDERR_FILENO,
+                b"report: standard output could not be written\n",
+            );
+        }
+        _ => {}
     }
-    counts
+}
+
+// Prints the report, and says how it ended. Where reading or writing failed, nothing more is printed, so no last line says what was
+// not seen.
+pub fn report() -> Progress
+    ensures { λ r. ⌜ Reported r ⌝ }
+{
+    let run = turns(saying::open());
+    let closed = saying::close(run);
+    let stand = closed.stand;
+    complain(stand);
+    closed
 }

@@ -2,14 +2,14 @@
 -- Assumes nothing.
 use mathlib.Core.Path.{_≡_}
 use mathlib.Core.Bool.{cond}
-use Prim.Native.Nat.{ℕ, suc, _+_, _-_, _^_, _≤_, _<_}
+use Prim.Native.Nat.{ℕ, _+_, _-_, _^_, _<_}
 use native.Mathlib.Omega.{arith}
 use borrow.Author.Tests.{lt-ltb}
 use lib.Dec.{ltb}
 use Rattle.text.specs.declared.Counts.{Counts}
 use Rattle.text.specs.declared.Fate.{Fate}
 use Rattle.text.specs.declared.Fate.the-variants.{Clean, Repaired, Refused}
-use Rattle.text.specs.Report.{isClean, isRepaired, isRefused, one-fate}
+use Rattle.text.specs.Report.{isClean, isRepaired, isRefused}
 
 -- the largest u64
 abbrev pub largest : ℕ
@@ -49,47 +49,32 @@ pub record OneMoreOf (fate : Fate) (c d : Counts) : Type 0 where
   pub repaired : d .repaired ≡ c .repaired + isRepaired fate
   pub refused : d .refused ≡ c .refused + isRefused fate
 
--- there is room to count k more Sectors
-pub record Room (k : ℕ) (c : Counts) : Type 0 where
-  pub sectors : c .sectors + k ≤ largest
-  pub clean : c .clean + k ≤ largest
-  pub repaired : c .repaired + k ≤ largest
-  pub refused : c .refused + k ≤ largest
+-- there is room to count one more Sector
+pub record Room (c : Counts) : Type 0 where
+  pub sectors : c .sectors < largest
+  pub clean : c .clean < largest
+  pub repaired : c .repaired < largest
+  pub refused : c .refused < largest
 
-module _ (k : ℕ) (c : Counts) (room : Room (suc k) c) where
-  pub counted-right : (fate : Fate) → OneMoreOf fate c (countedWith c fate)
-  counted-right fate = by fate (one-more (c .sectors) (omega (arith, room .sectors)))
-    where
-      by : (f : Fate) → oneMore (c .sectors) ≡ c .sectors + 1 → OneMoreOf f c (countedWith c f)
-      by (Clean t) s =
-          record {
-            sectors = s;
-            clean = one-more (c .clean) (omega (arith, room .clean));
-            repaired = omega arith;
-            refused = omega arith;
-          }
-      by (Repaired t changed) s =
-          record {
-            sectors = s;
-            clean = omega arith;
-            repaired = one-more (c .repaired) (omega (arith, room .repaired));
-            refused = omega arith;
-          }
-      by (Refused number) s =
-          record {
-            sectors = s;
-            clean = omega arith;
-            repaired = omega arith;
-            refused = one-more (c .refused) (omega (arith, room .refused));
-          }
-
-  pub room-left : (fate : Fate) → Room k (countedWith c fate)
-  room-left fate =
-      let d = counted-right fate in
-      let one = one-fate fate in
-      record {
-        sectors = omega (arith, room .sectors, d .sectors);
-        clean = omega (arith, room .clean, d .clean);
-        repaired = omega (arith, room .repaired, d .repaired);
-        refused = omega (arith, room .refused, d .refused);
-      }
+pub counted-right : (c : Counts) → Room c → (fate : Fate) → OneMoreOf fate c (countedWith c fate)
+counted-right c room (Clean t) =
+    record {
+      sectors = one-more (c .sectors) (room .sectors);
+      clean = one-more (c .clean) (room .clean);
+      repaired = omega arith;
+      refused = omega arith;
+    }
+counted-right c room (Repaired t changed) =
+    record {
+      sectors = one-more (c .sectors) (room .sectors);
+      clean = omega arith;
+      repaired = one-more (c .repaired) (room .repaired);
+      refused = omega arith;
+    }
+counted-right c room (Refused number) =
+    record {
+      sectors = one-more (c .sectors) (room .sectors);
+      clean = omega arith;
+      repaired = omega arith;
+      refused = one-more (c .refused) (room .refused);
+    }

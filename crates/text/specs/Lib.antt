@@ -4,5 +4,4 @@ pub mod Reading
 pub mod Line
 pub mod Report
 pub mod Counting
-pub mod Printed
 pub mod Examples

@@ -1,76 +1,56 @@
--- `reporting::turn` meets its contract: a whole Sector is counted with its fate, and else the counts stay.
+-- `reporting::turn` meets its contract: it stops as reading stopped, or says the Sector's line.
 -- Assumes nothing.
-use mathlib.Core.Path.{refl}
-use mathlib.Core.Logic.{inl, inr}
+use mathlib.Core.Path.{sym, _∙_}
 use borrow.Author.Needs.{needs}
+use Rattle.reporting.proofs.Steps.{stops}
 use Rattle.reporting.proofs.turn.Statement.{statement}
 use Rattle.reporting.proofs.turn.Tie as tie
-
-blank-requires : tie.Need-blank-requires
-blank-requires c κs = search needs
-
-slice-aggregate-read-sector : tie.Need-slice-aggregate-read-sector
-slice-aggregate-read-sector c = search needs
 
 read-sector-requires : tie.Need-read-sector-requires
 read-sector-requires c κs = search needs
 
-enum-told : tie.Need-enum-told
-enum-told c = search needs
+stand-after-requires : tie.Need-stand-after-requires
+stand-after-requires c κs = search needs
 
-slice-aggregate-fate-of : tie.Need-slice-aggregate-fate-of
-slice-aggregate-fate-of c = search needs
+over-requires : tie.Need-over-requires
+over-requires c κs = search needs
 
-fate-of-requires : tie.Need-fate-of-requires
-fate-of-requires c κs = search needs
-
-fate-line-requires : tie.Need-fate-line-requires
-fate-line-requires c κs = search needs
-
-print-requires : tie.Need-print-requires
-print-requires c κs = search needs
-
-counted-requires : tie.Need-counted-requires
-counted-requires c κs = search needs
-
-enum-known-got : tie.Need-enum-known-got
-enum-known-got c = search needs
-
-enum-told-2 : tie.Need-enum-told-2
-enum-told-2 c = search needs
-
-slice-aggregate-write-all : tie.Need-slice-aggregate-write-all
-slice-aggregate-write-all c = search needs
-
-write-all-requires : tie.Need-write-all-requires
-write-all-requires c κs = search needs
+same-length : tie.Need-same-length
+same-length c = search needs
 
 returns : tie.Need-returns
-returns c = inr (c .before .before .before .fate-of .result, c .counted .ensures)
+returns c =
+    let s = c .before .before .before .before .before .before .before .before in
+    let f = c .before .before .before .before .before .read-sector in
+    stops
+    (s .args .counts)
+    _
+    (f .result .have)
+    (f .result .last)
+    (c .before .before .stand-after .result)
+    (s .pre .0)
+    (f .ensures)
+    (c .before .before .stand-after .ensures)
+    (sym (c .before .over .ensures) ∙ c .if1 .taken)
+
+tell-requires : tie.Need-tell-requires
+tell-requires c κs = search needs
+
+same-length-2 : tie.Need-same-length-2
+same-length-2 c = search needs
 
 returns-2 : tie.Need-returns-2
-returns-2 c = inl refl
-
-returns-3 : tie.Need-returns-3
-returns-3 c = inl refl
+returns-2 c = search needs
 
 pub turn-spec : {M : Type 1} → statement M
 turn-spec =
     tie.close
     (tie.spec
-    blank-requires
-    slice-aggregate-read-sector
     read-sector-requires
-    enum-told
-    slice-aggregate-fate-of
-    fate-of-requires
-    fate-line-requires
-    print-requires
-    counted-requires
-    enum-known-got
-    enum-told-2
-    slice-aggregate-write-all
-    write-all-requires
+    stand-after-requires
+    over-requires
+    same-length
     returns
-    returns-2
-    returns-3)
+    tell-requires
+    same-length-2
+    returns-2)

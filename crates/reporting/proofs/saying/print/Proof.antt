@@ -1,12 +1,12 @@
--- `reporting::print` meets its contract: the line is within its room.
+-- `reporting::saying::print` meets its contract: the line is within its room.
 -- Assumes nothing.
 use mathlib.Core.Path.{_≡_, sym}
 use native.Mathlib.Omega.{arith}
 use borrow.Author.Needs.{needs}
 use lib.ListN.{length}
 use lib.Seq.{length-take-le}
-use Rattle.reporting.proofs.print.Statement.{statement}
-use Rattle.reporting.proofs.print.Tie as tie
+use Rattle.reporting.proofs.saying.print.Statement.{statement}
+use Rattle.reporting.proofs.saying.print.Tie as tie
 
 array-share-prefix-bytes : tie.Need-array-share-prefix-bytes
 array-share-prefix-bytes c =

@@ -1,0 +1,19 @@
+-- `reporting::saying::last` meets its contract: the last line leads from before it to the report's end.
+-- Assumes nothing.
+use borrow.Author.Needs.{needs}
+use Rattle.reporting.proofs.Steps.{sayable, closable}
+use Rattle.reporting.proofs.saying.last.Statement.{statement}
+use Rattle.reporting.proofs.saying.last.Tie as tie
+
+last-line-requires : tie.Need-last-line-requires
+last-line-requires c κs = search needs
+
+say-requires : tie.Need-say-requires
+say-requires c κs =
+    sayable _ (c .last-line .result) (c .last-line .ensures) (closable (c .before .args .stand) (c .before .args .counts) (c .before .pre))
+
+returns : tie.Need-returns
+returns c = search needs
+
+pub last-spec : {M : Type 1} → statement M
+last-spec = tie.close (tie.spec last-line-requires say-requires returns)
