@@ -9,8 +9,8 @@ ghost use Rattle.exports.specs.Coders.{writing, reading, coding, oneOf, 
 use crate::lending::end_of;
 use crate::lending::put;
 use circ_reader::CircReader;
-use circ_writer::CircWriter;
 use circ_reader::ReaderAnswer;
+use circ_writer::CircWriter;
 use circ_writer::WriterAnswer;
 
 fn written(a: WriterAnswer) -> u8
