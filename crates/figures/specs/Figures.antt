@@ -19,7 +19,8 @@ use Rattle.words.specs.Words.{words, wordOf, sync0, sync1}
 use Rattle.merging.specs.Automaton.{step, steps, live, shown}
 use Rattle.merging.specs.Chosen.{Written, after, withHeader, m100, m010, m001, m000}
 use Rattle.merging.specs.Rule.{header, headers, allowed}
-use Rattle.section_writer.specs.State.{fresh, beginning}
+use Rattle.section_state.specs.Carried.{beginning}
+use Rattle.section_writer.specs.State.{fresh}
 
 -- a figure: what the definitions give, and what document 01 says
 pub record Figure : Type 1 where
@@ -46,7 +47,8 @@ onlyBefore b one other s =
 
 -- the start of a disc, and what then stands there: the first Sync Header; 000 and SYNC 0 behind it
 abbrev start : Written
-start = record { bits = []; level = beginning fresh .level; plus = beginning fresh .plus; minus = beginning fresh .minus }
+start =
+    let begun = beginning (fresh .dsv) (fresh .level) in record { bits = []; level = begun .level; plus = begun .plus; minus = begun .minus }
 
 abbrev afterSync0 : Written
 afterSync0 = after (withHeader start) (m000 ++ bitsOf 14 sync0)
