@@ -10,7 +10,8 @@ use lib.Dec.{T, eqb, eqb→eq}
 use lib.ListN.{length, getD, take, drop, take-append-drop, length-append, length-drop}
 use lib.Seq.{length-take-le, take-at, drop-at, drop-append-add, drop-cons, drop-drop, drop-nil}
 use Rattle.outcome.specs.Bytes.{Bytes}
-use Rattle.outcome.specs.Table.{allBelow, below}
+use Rattle.outcome.specs.Table.{allBelow}
+use Rattle.outcome.specs.Table.Entries.{below}
 use Rattle.bits.specs.Bits.{bitsOf, number, unpack, pack}
 use Rattle.bits.specs.Binary.{Binary}
 use Rattle.bits.specs.Binary.Parts.{binary-take, binary-drop}

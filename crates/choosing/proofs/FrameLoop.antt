@@ -7,7 +7,8 @@ use native.Mathlib.Numerals.{add-one}
 use native.Mathlib.Omega.{arith}
 use lib.ListN.{length, getD, set, take}
 use lib.Seq.{take-all}
-use Rattle.outcome.specs.Fill.{Filling, filling-none, filling-more, filling-all}
+use Rattle.outcome.specs.Buffer.{Filling}
+use Rattle.outcome.specs.Buffer.Filled.{filling-none, filling-more, filling-all}
 use Rattle.choosing.specs.declared.FrameChoice.{FrameChoice}
 use Rattle.choosing.specs.declared.Tally.{Tally}
 use Rattle.choosing.specs.declared.header.Tail.{Tail}

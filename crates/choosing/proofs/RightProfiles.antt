@@ -9,7 +9,8 @@ use native.Mathlib.Omega.{arith}
 use lib.Dec.{T, eqb, ltb, leb, eqb→eq, ltb→lt, leb→le}
 use lib.ListN.{length, getD, List·getD-append}
 use lib.Seq.{getD-append-add}
-use Rattle.outcome.specs.Table.{allBelow, below, and-left, and-right}
+use Rattle.outcome.specs.Table.{allBelow}
+use Rattle.outcome.specs.Table.Entries.{below, and-left, and-right}
 use Rattle.bits.specs.Bits.{bitsOf}
 use Rattle.words.specs.Words.{words}
 use Rattle.words.specs.Every.{every, each}

@@ -8,7 +8,7 @@ use lib.ListN.{take, drop}
 use Rattle.outcome.specs.Bytes.{Bytes}
 use Rattle.codeword.specs.Nearest.{nearest}
 use Rattle.codeword.specs.Parity.{Parity}
-use Rattle.codeword.specs.ParityExists.{four-exist}
+use Rattle.codeword.specs.Parity.Exists.{four-exist}
 pub mod Parities
 
 -- each element as a byte: a list of bytes as it is

@@ -6,7 +6,7 @@ use mathlib.Core.Bool.{cond}
 use lib.Dec.{eqb}
 use lib.ListN.{getD, replicate}
 use Rattle.outcome.specs.Table.{tabulated}
-use Rattle.xor.specs.Lists.{added}
+use Rattle.xor.specs.Added.{added}
 pub mod Order
 
 -- the bytes of w at these places

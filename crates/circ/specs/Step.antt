@@ -6,7 +6,8 @@ use mathlib.Core.List.{List, []}
 use lib.Dec.{eqb}
 use lib.ListN.{length}
 use borrow.Author.Tests.{eq-eqb, ne-eqb}
-use Rattle.outcome.specs.Say.{Say, done, refused, demand, cleared, cleared-wrong}
+use Rattle.outcome.specs.Say.{Say, done, refused, demand, cleared}
+use Rattle.outcome.specs.Say.Refusals.{cleared-wrong}
 use Rattle.calls.specs.Step.{Step, step, stepOf}
 
 -- what a step says to a frame and a buffer: refusals 1 and 2 in this order

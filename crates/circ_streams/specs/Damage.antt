@@ -7,7 +7,7 @@ use Prim.Native.Nat.{ℕ, _+_, _≤_}
 use native.Mathlib.Omega.{arith}
 use lib.ListN.{replicate}
 use Rattle.codeword.specs.Code.{changes, Near}
-use Rattle.codeword.specs.NearestLaws.{nearest-complete}
+use Rattle.codeword.specs.Nearest.Finds.{nearest-complete}
 use Rattle.lines.specs.Back.{back-later}
 use Rattle.circ.specs.Chains.{metC1}
 use Rattle.circ.specs.Codes.{qOf, pOf, corrected, handedOn}

@@ -6,9 +6,9 @@ use mathlib.Core.List.{List, [], _∷_, _++_}
 use Prim.Native.Nat.{ℕ}
 use native.Mathlib.Omega.{arith}
 use lib.ListN.{take}
-use Rattle.outcome.specs.Bytes.{bytes-replicate, bytes-nil}
-use Rattle.codeword.specs.Distance.{sum-zeros}
-use Rattle.codeword.specs.ParityLaws.{parity-unique}
+use Rattle.outcome.specs.Bytes.Kept.{bytes-replicate, bytes-nil}
+use Rattle.codeword.specs.Code.Distance.{sum-zeros}
+use Rattle.codeword.specs.Parity.One.{parity-one}
 use Rattle.lines.specs.Delay.{total}
 use Rattle.lines.specs.Zeros.{zeros, chain-zeros, chain-stays}
 use Rattle.circ.specs.Rows.{placed, collected, doubt, beforeC2, between, afterC1, readerBeforeC1, readerBetween, readerAfterC2, mask, inverted}
@@ -23,14 +23,14 @@ pub mod Before
 q-zeros : qOf (zeros 28) ≡ zeros 4
 unfolding qOf
 q-zeros =
-    parity-unique 4 (zeros 12) (qOf (zeros 28)) (zeros 4) (zeros 12) (omega arith)
+    parity-one 4 (zeros 12) (qOf (zeros 28)) (zeros 4) (zeros 12) (omega arith)
     (parity-right (zeros 12) (zeros 12) (bytes-replicate 12 0 (omega arith)) (bytes-replicate 12 0 (omega arith)))
     (record { long = refl; bytes = bytes-replicate 4 0 (omega arith); code = λ j h. sum-zeros j 28 })
 
 p-zeros : pOf (zeros 28) ≡ zeros 4
 unfolding pOf
 p-zeros =
-    parity-unique 4 (zeros 28) (pOf (zeros 28)) (zeros 4) [] (omega arith) (parity-right (zeros 28) [] (bytes-replicate 28 0 (omega arith)) bytes-nil)
+    parity-one 4 (zeros 28) (pOf (zeros 28)) (zeros 4) [] (omega arith) (parity-right (zeros 28) [] (bytes-replicate 28 0 (omega arith)) bytes-nil)
     (record { long = refl; bytes = bytes-replicate 4 0 (omega arith); code = λ j h. sum-zeros j 32 })
 
 with-q-zeros : withQ qOf (zeros 28) ≡ zeros 28

@@ -7,7 +7,8 @@ use Prim.Native.Nat.{ℕ, _+_, _≤_, _<_}
 use native.Mathlib.Omega.{arith}
 use lib.ListN.{length, getD, replicate, length-replicate, length-append, List·getD-append}
 use lib.Seq.{getD-take, length-take-le, getD-append-add}
-use Rattle.outcome.specs.Bytes.{Bytes, bytes-replicate}
+use Rattle.outcome.specs.Bytes.{Bytes}
+use Rattle.outcome.specs.Bytes.Kept.{bytes-replicate}
 use Rattle.lines.specs.Stream.{back, outAt}
 use Rattle.lines.specs.Back.{back-same, back-all, back-none}
 use Rattle.lines.specs.Section.{section-law, length-out}

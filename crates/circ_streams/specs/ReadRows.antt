@@ -6,7 +6,8 @@ use Prim.Native.Nat.{ℕ, _+_, _≤_, _<_}
 use native.Mathlib.Omega.{arith}
 use lib.ListN.{length, getD, length-append, List·getD-append}
 use lib.Seq.{length-take-le, getD-append-add}
-use Rattle.outcome.specs.Bytes.{Bytes, bytes-take}
+use Rattle.outcome.specs.Bytes.{Bytes}
+use Rattle.outcome.specs.Bytes.Kept.{bytes-take}
 use Rattle.lines.specs.Stream.{back, outAt}
 use Rattle.lines.specs.Back.{back-same}
 use Rattle.lines.specs.Section.{section-law, length-out, bytes-out}

@@ -10,9 +10,10 @@ use native.Mathlib.Omega.{arith}
 use lib.Dec.{T, eqb, eqb→eq, ltb, ltb→lt, leb, leb→le}
 use lib.ListN.{length, take, drop, getD, replicate}
 use lib.Seq.{drop-cons, take-all}
-use Rattle.outcome.specs.Bytes.{Bytes, bytes-append, bytes-replicate}
-use Rattle.outcome.specs.Table.{below, and-left, and-right}
-use Rattle.xor.specs.Lists.{length-added, added-twice, bytes-added}
+use Rattle.outcome.specs.Bytes.{Bytes}
+use Rattle.outcome.specs.Bytes.Kept.{bytes-append, bytes-replicate}
+use Rattle.outcome.specs.Table.Entries.{below, and-left, and-right}
+use Rattle.xor.specs.Added.Places.{length-added, added-twice, bytes-added}
 use Rattle.circ.specs.Rows.{picked, firstTwelve, lastTwelve, placed, rowsOfBytes, collected, beforeC2, between, afterC1, readerBeforeC1, readerBetween, readerAfterC2, mask, inverted}
 
 -- ---- what the waits of a row add up to in writer and reader

@@ -7,7 +7,8 @@ use Prim.Native.Nat.{ℕ, _+_, _-_, _≤_, _<_}
 use native.Mathlib.Omega.{arith}
 use lib.ListN.{length, take, drop, getD, length-append, length-drop, List·getD-append}
 use lib.Seq.{length-take-le, getD-take, getD-drop, getD-append-add}
-use Rattle.outcome.specs.Bytes.{Bytes, bytes-append, bytes-take, bytes-drop}
+use Rattle.outcome.specs.Bytes.{Bytes}
+use Rattle.outcome.specs.Bytes.Kept.{bytes-append, bytes-take, bytes-drop}
 use Rattle.circ.specs.Chains.{withQ, withP}
 use Rattle.circ_streams.specs.Tables.{Carries}
 

@@ -6,7 +6,7 @@ use Prim.Native.Nat.{ℕ, _+_, _≤_, _<_}
 use native.Mathlib.Omega.{arith}
 use lib.Bits.{bitXor, xor-zero-r}
 use lib.ListN.{length, getD, List·getD-eq-default}
-use Rattle.xor.specs.Lists.{added-at}
+use Rattle.xor.specs.Added.Places.{added-at}
 use Rattle.lines.specs.Stream.{back}
 use Rattle.lines.specs.Back.{back-same}
 use Rattle.lines.specs.Section.{section-law}

@@ -8,7 +8,7 @@ use lib.ListN.{length, take, drop, getD, set}
 use lib.Seq.{sets-eq}
 use Rattle.outcome.specs.Bytes.{Bytes}
 use Rattle.codeword.specs.Parity.{Parity}
-use Rattle.codeword.specs.ParityLaws.{parity-unique, parity-end-unique}
+use Rattle.codeword.specs.Parity.One.{parity-one, parity-end-one}
 use Rattle.circ.specs.Chains.{withQ, withP}
 use Rattle.circ.specs.Codes.{qOf, pOf}
 use Rattle.circ.specs.Codes.Parities.{q-parity, p-parity}
@@ -25,7 +25,7 @@ four (a ∷ b ∷ c ∷ d ∷ x ∷ q) e = absurd (omega arith)
 module _ (w q : List ℕ) (bytes : Bytes w) where
   q-is : Parity 4 q (take 12 w ++ (q ++ drop 16 w)) → q ≡ qOf w
   unfolding withQ
-  q-is P = parity-unique 4 (take 12 w) q (qOf w) (drop 16 w) (omega arith) P (q-parity w bytes)
+  q-is P = parity-one 4 (take 12 w) q (qOf w) (drop 16 w) (omega arith) P (q-parity w bytes)
 
   -- the four stores into rows 12 to 15
   pub filled-q : length w ≡ 28 → Parity 4 q (take 12 w ++ (q ++ drop 16 w))
@@ -39,4 +39,4 @@ module _ (w q : List ℕ) (bytes : Bytes w) where
   -- the word in front of the four bytes
   pub filled-p : Parity 4 q (w ++ q) → (v : List ℕ) → v ≡ w → v ++ (getD q 0 0 ∷ getD q 1 0 ∷ getD q 2 0 ∷ getD q 3 0 ∷ []) ≡ withP pOf w
   unfolding withP
-  filled-p P v e = ap₂ _++_ e (four q (P .long) ∙ parity-end-unique 4 w q (pOf w) (omega arith) P (p-parity w bytes))
+  filled-p P v e = ap₂ _++_ e (four q (P .long) ∙ parity-end-one 4 w q (pOf w) (omega arith) P (p-parity w bytes))

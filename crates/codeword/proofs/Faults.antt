@@ -8,11 +8,12 @@ use borrow.Author.Tests.{lt-ltb, le-ltb}
 use lib.Dec.{eqb, eqb→eq}
 use lib.ListN.{length, getD}
 use Rattle.outcome.specs.First.{firstBelow}
-use Rattle.outcome.specs.Table.{allBelow, below, of-true}
+use Rattle.outcome.specs.Table.{allBelow}
+use Rattle.outcome.specs.Table.Entries.{below, of-true}
 use Rattle.codeword.specs.Code.{sums}
 use Rattle.codeword.specs.Nearest.{verdict}
 use Rattle.codeword.specs.Fault.{allZero, fits, faultAt, fault, cure}
-use Rattle.codeword.specs.FaultLaws.{verdict-by-sums}
+use Rattle.codeword.specs.Fault.Decides.{verdict-by-sums}
 use Rattle.codeword.specs.declared.Fault.{Fault}
 use Rattle.codeword.specs.declared.Fault.the-variants.{Clean, Lost}
 use Rattle.codeword.specs.declared.Verdict.{Verdict}

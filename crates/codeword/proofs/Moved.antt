@@ -7,14 +7,16 @@ use native.Mathlib.Omega.{arith}
 use lib.Bits.{bitXor}
 use lib.ListN.{length, getD, take, drop, length-take, length-drop, take-append-drop}
 use lib.Seq.{getD-take, getD-drop, drop-drop}
-use Rattle.outcome.specs.Bytes.{Bytes, bytes-take, bytes-drop}
-use Rattle.xor.specs.Lists.{added, length-added, bytes-added}
+use Rattle.outcome.specs.Bytes.{Bytes}
+use Rattle.outcome.specs.Bytes.Kept.{bytes-take, bytes-drop}
+use Rattle.xor.specs.Added.{added}
+use Rattle.xor.specs.Added.Places.{length-added, bytes-added}
 use Rattle.field.specs.Field.{power, mul}
 use Rattle.codeword.specs.Code.{sum, sums}
 use Rattle.codeword.specs.Parity.{WithSums, Parity}
-use Rattle.codeword.specs.ParityLaws.{parity-behind, parity-added, power-back}
+use Rattle.codeword.specs.Parity.One.{parity-behind, parity-added, power-back}
 use Rattle.codeword.proofs.Listed.{four-listed}
-use Rattle.codeword.specs.Sums.{times-0, sum-lt}
+use Rattle.codeword.specs.Code.Sums.{times-0, sum-lt}
 
 -- the sums s of w, each moved by a power
 module _ (w s : List ℕ) (h : Bytes w) (e : s ≡ sums 4 w) where

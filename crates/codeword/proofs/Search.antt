@@ -11,12 +11,14 @@ use borrow.Author.Count.{below-more}
 use borrow.Author.Tests.{eq-eqb}
 use lib.Dec.{eqb, eqb→eq}
 use lib.ListN.{length, getD}
-use Rattle.outcome.specs.First.{firstBelow, found-first}
-use Rattle.outcome.specs.Table.{allBelow, below, all-below, true-of, of-true}
+use Rattle.outcome.specs.First.{firstBelow}
+use Rattle.outcome.specs.First.Found.{found-first}
+use Rattle.outcome.specs.Table.{allBelow}
+use Rattle.outcome.specs.Table.Entries.{below, all-below, true-of, of-true}
 use Rattle.field.specs.Field.{power, mul}
-use Rattle.field.specs.Laws.{mul-power-add}
+use Rattle.field.specs.Field.Product.{mul-power-add}
 use Rattle.codeword.specs.Fault.{fits}
-use Rattle.codeword.specs.Sums.{times-0, times-none}
+use Rattle.codeword.specs.Code.Sums.{times-0, times-none}
 
 -- ---- a search that has passed the numbers below m
 

@@ -4,11 +4,12 @@ use mathlib.Core.Path.{_≡_, refl, subst}
 use mathlib.Core.List.{List, [], _∷_, map}
 use Prim.Native.Nat.{ℕ, _<_}
 use lib.Bits.{bitXor}
-use Rattle.outcome.specs.Bytes.{Bytes, bytes-nil, bytes-cons}
+use Rattle.outcome.specs.Bytes.{Bytes}
+use Rattle.outcome.specs.Bytes.Kept.{bytes-nil, bytes-cons}
 use Rattle.field.specs.Field.{timesAlpha, mul}
 use Rattle.codeword.specs.Parity.{WithSums}
-use Rattle.codeword.specs.Forms.{value, solved}
-use Rattle.codeword.specs.Solve.{twoForms, two-solve, fourForms, four-solve}
+use Rattle.codeword.specs.Parity.LinearForms.{value, solved}
+use Rattle.codeword.specs.Parity.Solve.{twoForms, two-solve, fourForms, four-solve}
 
 module _ (t0 t1 : ℕ) (h0 : t0 < 256) (h1 : t1 < 256) where
   abbrev two : List ℕ

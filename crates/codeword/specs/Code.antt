@@ -10,6 +10,11 @@ use lib.ListN.{length}
 use Rattle.outcome.specs.Bytes.{Bytes}
 use Rattle.outcome.specs.Table.{tabulated}
 use Rattle.field.specs.Field.{power, mul}
+pub mod Sums
+pub mod Changes
+pub mod OneSumLess
+pub mod Distance
+pub mod NearOne
 
 -- the sum of a word of k bytes with byte i times α^(j(k-1-i)): k-1-i bytes come after byte i
 unfoldable pub sum : ℕ → List ℕ → ℕ

@@ -15,6 +15,7 @@ use Rattle.codeword.specs.declared.Fault.{Fault}
 use Rattle.codeword.specs.declared.Fault.the-variants as faults
 use Rattle.codeword.specs.declared.Verdict.{Verdict}
 use Rattle.codeword.specs.declared.Verdict.the-variants as verdicts
+pub mod Decides
 
 -- whether each sum is 0
 unfoldable pub allZero : List ℕ → Bool

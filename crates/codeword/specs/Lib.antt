@@ -1,17 +1,7 @@
+-- Annex A, Annex C.7
 pub mod Code
 pub mod Nearest
-pub mod Fault
 pub mod Parity
+-- two bytes as a list; the fault of a word by its sums
 pub mod Pair
-pub mod Sums
-pub mod Changes
-pub mod Twist
-pub mod Distance
-pub mod NearLaws
-pub mod NearestLaws
-pub mod FaultLaws
-pub mod Dot
-pub mod Forms
-pub mod Solve
-pub mod ParityLaws
-pub mod ParityExists
+pub mod Fault

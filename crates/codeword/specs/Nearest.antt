@@ -13,6 +13,7 @@ use Rattle.outcome.specs.Table.{allBelow}
 use Rattle.codeword.specs.Code.{sum}
 use Rattle.codeword.specs.declared.Verdict.{Verdict}
 use Rattle.codeword.specs.declared.Verdict.the-variants.{Clean, Change, Lost}
+pub mod Finds
 
 -- whether the first J sums are 0
 unfoldable pub isCodeword : ℕ → List ℕ → Bool

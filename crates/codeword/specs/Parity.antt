@@ -7,6 +7,11 @@ use Prim.Native.Nat.{ℕ, _<_}
 use lib.ListN.{length, getD}
 use Rattle.outcome.specs.Bytes.{Bytes}
 use Rattle.codeword.specs.Code.{sum, Codeword}
+pub mod Dot
+pub mod LinearForms
+pub mod Solve
+pub mod One
+pub mod Exists
 
 -- p are bytes, one for each number of t, and their first sums are t
 pub record WithSums (t p : List ℕ) : Type 0 where

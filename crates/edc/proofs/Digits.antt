@@ -6,27 +6,27 @@ use Prim.Native.Nat.{ℕ, zero, suc, _+_, _*_, _/_, _%_, _^_, _<_, _≤_}
 use native.Mathlib.Nat.{div-div-eq-div-mul}
 use native.Mathlib.Omega.{arith}
 use lib.ListN.{length, take, drop, replicate, length-drop}
-use Rattle.edc.specs.Bits.{bits, number, bytesOf}
+use Rattle.edc.specs.Bits.{bits, numberLowFirst, bytesLowFirst}
 use Rattle.edc.specs.Polynomial.{Coefficients}
 use Rattle.edc.specs.Edc.{remainder, edc}
-use Rattle.edc.specs.Coefficients.{coefs-drop, coefs-remainder, length-remainder}
-use Rattle.edc.specs.Numbers.{first-byte, first-byte-lt}
-use Rattle.edc.specs.Register.{steps}
-use Rattle.edc.specs.Laws.{zeros-number}
+use Rattle.edc.specs.Polynomial.Lengths.{coefs-drop, coefs-remainder, length-remainder}
+use Rattle.edc.specs.Bits.Numbers.{first-byte, first-byte-lt}
+use Rattle.edc.specs.Inner.Register.{steps}
+use Rattle.edc.specs.Edc.Right.{zeros-number}
 
 abbrev digits : ℕ → ℕ → List ℕ
 digits zero n = []
 digits (suc k) n = n % 256 ∷ digits k (n / 256)
 
-bytesOf-digits : (k : ℕ) (cs : List ℕ) → Coefficients cs → length cs ≡ k * 8 → bytesOf k cs ≡ digits k (number cs)
+bytesOf-digits : (k : ℕ) (cs : List ℕ) → Coefficients cs → length cs ≡ k * 8 → bytesLowFirst k cs ≡ digits k (numberLowFirst cs)
 bytesOf-digits zero cs h l = refl
 bytesOf-digits (suc k) cs h l =
     let m : 8 ≤ length cs = omega arith in
-    let e : number cs ≡ number (drop 8 cs) * 256 + number (take 8 cs) = first-byte cs m in
-    let f : number (take 8 cs) < 256 = first-byte-lt cs h m in
-    let p : number (take 8 cs) ≡ number cs % 256 = omega arith in
-    let q : number (drop 8 cs) ≡ number cs / 256 = omega arith in
-    let r : bytesOf k (drop 8 cs) ≡ digits k (number cs / 256)
+    let e : numberLowFirst cs ≡ numberLowFirst (drop 8 cs) * 256 + numberLowFirst (take 8 cs) = first-byte cs m in
+    let f : numberLowFirst (take 8 cs) < 256 = first-byte-lt cs h m in
+    let p : numberLowFirst (take 8 cs) ≡ numberLowFirst cs % 256 = omega arith in
+    let q : numberLowFirst (drop 8 cs) ≡ numberLowFirst cs / 256 = omega arith in
+    let r : bytesLowFirst k (drop 8 cs) ≡ digits k (numberLowFirst cs / 256)
     = bytesOf-digits k (drop 8 cs) (coefs-drop 8 cs h) (omega (arith, length-drop 8 cs)) ∙ ap (digits k) q in
     λ i. p i ∷ r i
 
@@ -39,7 +39,7 @@ four-digits n h =
     λ i. n % 256 ∷ n / 256 % 256 ∷ r i ∷ s i ∷ []
 
 -- n is the register after 32 steps more
-pub edc-digits : (bytes : List ℕ) (n : ℕ) → n < 2 ^ 32 → n ≡ steps 32 (number (remainder (bits bytes)))
+pub edc-digits : (bytes : List ℕ) (n : ℕ) → n < 2 ^ 32 → n ≡ steps 32 (numberLowFirst (remainder (bits bytes)))
     → n % 256 ∷ n / 256 % 256 ∷ n / 65536 % 256 ∷ n / 16777216 ∷ [] ≡ edc bytes
 unfolding edc
 edc-digits bytes n h e =

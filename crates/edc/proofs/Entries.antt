@@ -8,10 +8,10 @@ use native.Mathlib.Omega.{arith}
 use lib.Bits.{bitXor, xor-shifted, xor-comm}
 use lib.ListN.{length, getD, List·getD-append}
 use lib.Seq.{getD-append-add}
-use Rattle.outcome.specs.Table.{tabulated-at, length-tabulated}
-use Rattle.xor.specs.Laws.{xor-assoc}
-use Rattle.edc.specs.Register.{steps, steps-add, steps-zeros, steps-join}
-use Rattle.edc.specs.Rows.{block, rows}
+use Rattle.outcome.specs.Table.Entries.{tabulated-at, length-tabulated}
+use Rattle.xor.specs.Xor.Group.{xor-assoc}
+use Rattle.edc.specs.Inner.Register.{steps, steps-add, steps-zeros, steps-join}
+use Rattle.edc.specs.Inner.Rows.{block, rows}
 
 length-block : (k : ℕ) → length (block k) ≡ 256
 length-block k = length-tabulated (steps k) 0 256
@@ -50,7 +50,7 @@ module _ (x : ℕ) (h : x < 256) where
       ∙ past-block 24 x (block 32)
       ∙ tabulated-at (steps 32) 256 x h
 
--- the lowest byte of a number takes all the steps, and the rest of it eight less
+-- the lowest byte of a numberLowFirst takes all the steps, and the rest of it eight less
 split-byte : (k n : ℕ) → steps (8 + k) n ≡ bitXor (steps (8 + k) (n % 256)) (steps k (n / 256))
 split-byte k n =
     let e : n ≡ n / 256 * 2 ^ 8 + n % 256 = omega arith in

@@ -10,27 +10,27 @@ use lib.Bits.{bitXor}
 use lib.ListN.{length, take, drop, getD, length-drop}
 use lib.Seq.{take-all, take-add, drop-cons, length-take-le}
 use Rattle.outcome.specs.Bytes.{Bytes}
-use Rattle.edc.specs.Bits.{bits, number}
+use Rattle.edc.specs.Bits.{bits, numberLowFirst}
 use Rattle.edc.specs.Edc.{divided, remainder}
-use Rattle.edc.specs.Coefficients.{coefs-bits, length-bits, bits-append}
-use Rattle.edc.specs.Numbers.{number-byte}
-use Rattle.edc.specs.Register.{steps}
-use Rattle.edc.specs.Division.{remainder-append, remainder-word}
+use Rattle.edc.specs.Polynomial.Lengths.{coefs-bits, length-bits, bits-append}
+use Rattle.edc.specs.Bits.Numbers.{number-byte}
+use Rattle.edc.specs.Inner.Register.{steps}
+use Rattle.edc.specs.Edc.Division.{remainder-append, remainder-word}
 
--- ---- one and four bytes as a number
+-- ---- one and four bytes as a numberLowFirst
 
-number-none : number [] ≡ 0
-unfolding number
+number-none : numberLowFirst [] ≡ 0
+unfolding numberLowFirst
 number-none = refl
 
-pub byte-number : (bytes : List ℕ) (i : ℕ) → Bytes bytes → i < length bytes → number (bits (take 1 (drop i bytes))) ≡ getD bytes i 0
+pub byte-number : (bytes : List ℕ) (i : ℕ) → Bytes bytes → i < length bytes → numberLowFirst (bits (take 1 (drop i bytes))) ≡ getD bytes i 0
 byte-number bytes i h l =
     let e : take 1 (drop i bytes) ≡ getD bytes i 0 ∷ [] = ap (take 1) (drop-cons bytes i 0 l) in
-    ap (λ (p : List ℕ). number (bits p)) e ∙ omega (arith, number-byte (getD bytes i 0) [] (h i), number-none)
+    ap (λ (p : List ℕ). numberLowFirst (bits p)) e ∙ omega (arith, number-byte (getD bytes i 0) [] (h i), number-none)
 
 pub word-number : (bytes : List ℕ) (i : ℕ) → Bytes bytes → i + 4 ≤ length bytes
     → getD bytes i 0 + getD bytes (i + 1) 0 * 256 + getD bytes (i + 2) 0 * 65536 + getD bytes (i + 3) 0 * 16777216
-    ≡ number (bits (take 4 (drop i bytes)))
+    ≡ numberLowFirst (bits (take 4 (drop i bytes)))
 word-number bytes i h l =
     let a : ℕ = getD bytes i 0 in
     let b : ℕ = getD bytes (i + 1) 0 in
@@ -43,7 +43,7 @@ word-number bytes i h l =
     ∙ ap (λ (t : List ℕ). a ∷ b ∷ c ∷ take 1 t) (drop-cons bytes (i + 3) 0 (omega arith)) in
     omega (
       arith,
-      ap (λ (t : List ℕ). number (bits t)) e,
+      ap (λ (t : List ℕ). numberLowFirst (bits t)) e,
       number-byte a (b ∷ c ∷ d ∷ []) (h i),
       number-byte b (c ∷ d ∷ []) (h (i + 1)),
       number-byte c (d ∷ []) (h (i + 2)),
@@ -55,10 +55,10 @@ word-number bytes i h l =
 
 pub record Passed (bytes : List ℕ) (i r : ℕ) : Type 0 where
   pub upto : i ≤ length bytes
-  pub is : r ≡ number (remainder (bits (take i bytes)))
+  pub is : r ≡ numberLowFirst (remainder (bits (take i bytes)))
 
 pub passed-none : (bytes : List ℕ) → Passed bytes 0 0
-unfolding remainder divided number
+unfolding remainder divided numberLowFirst
 passed-none bytes = record { upto = omega arith; is = refl }
 
 module _ {bytes : List ℕ} {i r : ℕ} (p : Passed bytes i r) where
@@ -71,14 +71,14 @@ module _ {bytes : List ℕ} {i r : ℕ} (p : Passed bytes i r) where
   length-part k h =
       length-bits (take k (drop i bytes)) ∙ ap (λ (n : ℕ). n * 8) (length-take-le k (drop i bytes) (omega (arith, length-drop i bytes)))
 
-  passed-more : (k s : ℕ) → i + k ≤ length bytes → s ≡ number (remainder (bits (take i bytes) ++ part k)) → Passed bytes (i + k) s
+  passed-more : (k s : ℕ) → i + k ≤ length bytes → s ≡ numberLowFirst (remainder (bits (take i bytes) ++ part k)) → Passed bytes (i + k) s
   unfolding part
   passed-more k s h e =
       let f : bits (take (i + k) bytes) ≡ bits (take i bytes) ++ part k
       = ap bits (take-add i k bytes) ∙ bits-append (take i bytes) (take k (drop i bytes)) in
-      record { upto = h; is = e ∙ ap (λ (cs : List ℕ). number (remainder cs)) (sym f) }
+      record { upto = h; is = e ∙ ap (λ (cs : List ℕ). numberLowFirst (remainder cs)) (sym f) }
 
-  pub passed-word : (w s : ℕ) → i + 4 ≤ length bytes → w ≡ number (bits (take 4 (drop i bytes))) → s ≡ steps 32 r
+  pub passed-word : (w s : ℕ) → i + 4 ≤ length bytes → w ≡ numberLowFirst (bits (take 4 (drop i bytes))) → s ≡ steps 32 r
       → Passed bytes (i + 4) (bitXor w s)
   unfolding part
   passed-word w s h e f =
@@ -93,8 +93,8 @@ module _ {bytes : List ℕ} {i r : ℕ} (p : Passed bytes i r) where
       passed-more 1 s l
       (e
       ∙ ap₂ (λ (x y : ℕ). steps 8 (x + y * 2 ^ 32)) (p .is) (sym (byte-number bytes i b h))
-      ∙ ap (λ (n : ℕ). steps n (number (remainder (bits (take i bytes))) + number (part 1) * 2 ^ 32)) (sym (length-part 1 l))
+      ∙ ap (λ (n : ℕ). steps n (numberLowFirst (remainder (bits (take i bytes))) + numberLowFirst (part 1) * 2 ^ 32)) (sym (length-part 1 l))
       ∙ sym (remainder-append (bits (take i bytes)) (part 1) (coefs-bits (take 1 (drop i bytes)))))
 
-  pub passed-all : length bytes ≤ i → r ≡ number (remainder (bits bytes))
-  passed-all h = p .is ∙ ap (λ (l : List ℕ). number (remainder (bits l))) (take-all i bytes h)
+  pub passed-all : length bytes ≤ i → r ≡ numberLowFirst (remainder (bits bytes))
+  passed-all h = p .is ∙ ap (λ (l : List ℕ). numberLowFirst (remainder (bits l))) (take-all i bytes h)

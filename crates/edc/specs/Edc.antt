@@ -7,8 +7,12 @@ use mathlib.Core.List.{List, [], _∷_, _++_}
 use Prim.Native.Nat.{ℕ}
 use lib.Dec.{eqb}
 use lib.ListN.{drop, getD, replicate}
-use Rattle.edc.specs.Bits.{bits, bytesOf}
+use Rattle.edc.specs.Bits.{bits, bytesLowFirst}
 use Rattle.edc.specs.Polynomial.{plus, scaled, divisor}
+pub mod Division
+pub mod Zero
+pub mod Right
+pub mod Vector
 
 -- One line of the division: the next coefficient c is brought down beside the remainder r, and the divisor is taken away as often
 -- as the highest coefficient says, 0 times or once. The highest coefficient is 0 then and is dropped.
@@ -31,7 +35,7 @@ Divisible bytes = remainder (bits bytes) ≡ replicate 32 0
 -- The four bytes of the EDC field that follows some bytes: what is left of these with 32 coefficients 0 after them. So the
 -- coefficient of x^0 is the most significant bit of the last byte.
 unfoldable pub edc : List ℕ → List ℕ
-edc bytes = bytesOf 4 (remainder (bits bytes ++ replicate 32 0))
+edc bytes = bytesLowFirst 4 (remainder (bits bytes ++ replicate 32 0))
 
 -- a test: every coefficient is 0
 abbrev pub isZero : List ℕ → Bool

@@ -1,13 +1,7 @@
+-- clause 14.3
 pub mod Bits
 pub mod Polynomial
-pub mod Edc
-pub mod Coefficients
-pub mod Numbers
-pub mod Register
-pub mod Division
-pub mod Product
 pub mod Multiple
-pub mod Laws
-pub mod Zero
-pub mod Rows
-pub mod Vector
+pub mod Edc
+-- the code's register and its table
+pub mod Inner

@@ -1,12 +1,14 @@
 -- Polynomials with coefficients modulo 2, and the check polynomial of clause 14.3. A polynomial is the list of its coefficients, each
 -- 0 or 1, the highest power first.
 -- Assumes nothing.
-use mathlib.Core.Path.{_≡_, refl}
 use mathlib.Core.Bool.{cond}
 use mathlib.Core.List.{List, [], _∷_, _++_}
 use Prim.Native.Nat.{ℕ, zero, suc, _+_, _-_, _*_, _%_, _<_}
 use lib.Dec.{eqb}
 use lib.ListN.{length, replicate}
+pub mod Lengths
+pub mod Divisor
+pub mod Product
 
 -- each coefficient is 0 or 1
 abbrev pub Coefficients : List ℕ → Type 0
@@ -19,7 +21,7 @@ plus [] ds = []
 plus (c ∷ cs) [] = []
 plus (c ∷ cs) (d ∷ ds) = (c + d) % 2 ∷ plus cs ds
 
--- a polynomial times a number
+-- a polynomial times a numberLowFirst
 abbrev pub scaled : ℕ → List ℕ → List ℕ
 scaled q [] = []
 scaled q (c ∷ cs) = q * c ∷ scaled q cs
@@ -47,18 +49,9 @@ unfoldable pub divisor : List ℕ
 divisor =
     1 ∷ 1 ∷ 0 ∷ 0 ∷ 0 ∷ 0 ∷ 0 ∷ 0 ∷ 0 ∷ 0 ∷ 0 ∷ 0 ∷ 0 ∷ 0 ∷ 0 ∷ 0 ∷ 1 ∷ 1 ∷ 0 ∷ 0 ∷ 0 ∷ 0 ∷ 0 ∷ 0 ∷ 0 ∷ 0 ∷ 0 ∷ 0 ∷ 1 ∷ 1 ∷ 0 ∷ 1 ∷ 1 ∷ []
 
--- its powers as document 01 lists them
-pub divisor-powers : divisor ≡ powers 33 (32 ∷ 31 ∷ 16 ∷ 15 ∷ 4 ∷ 3 ∷ 1 ∷ 0 ∷ [])
-unfolding divisor
-divisor-powers = refl
-
 -- its factors as clause 14.3 has them, x^16 + x^15 + x^2 + 1 and x^16 + x^2 + x + 1
 abbrev pub factor₁ : List ℕ
 factor₁ = powers 17 (16 ∷ 15 ∷ 2 ∷ 0 ∷ [])
 
 abbrev pub factor₂ : List ℕ
 factor₂ = powers 17 (16 ∷ 2 ∷ 1 ∷ 0 ∷ [])
-
-pub divisor-product : divisor ≡ product factor₁ factor₂
-unfolding divisor
-divisor-product = refl

@@ -4,10 +4,10 @@ mod table;
 ghost use mathlib.Core.Path.{_≡_};
 ghost use Prim.Native.Nat.{_+_, _*_, _^_, _≤_};
 ghost use lib.ListN.{length, take, drop};
-ghost use Rattle.edc.specs.Bits.{bits, number};
+ghost use Rattle.edc.specs.Bits.{bits, numberLowFirst};
 ghost use Rattle.edc.specs.Edc.{remainder, edc, isZero};
-ghost use Rattle.edc.specs.Register.{steps};
-ghost use Rattle.edc.specs.Rows.{rows};
+ghost use Rattle.edc.specs.Inner.Register.{steps};
+ghost use Rattle.edc.specs.Inner.Rows.{rows};
 
 // 32 steps of the register: one entry for each of its bytes.
 fn advance(t: &[u32; 1024], r: u32) -> u32
@@ -30,7 +30,7 @@ fn take_byte(t: &[u32; 1024], r: u32, b: u8) -> u32
     high ^ t[(r % 256) as usize]
 }
 
-// Four bytes as one number, the first the lowest.
+// Four bytes as one numberLowFirst, the first the lowest.
 fn word(a: u8, b: u8, c: u8, d: u8) -> u32
     ensures { λ r. ⌜ r ≡ a + b * 256 + c * 65536 + d * 16777216 ⌝ }
 {
@@ -40,7 +40,7 @@ fn word(a: u8, b: u8, c: u8, d: u8) -> u32
 // The four bytes from i on.
 fn word_at(bytes: &[u8], i: usize) -> u32
     requires { ⌜ i + 4 ≤ length (now bytes) ⌝ }
-    ensures { λ r. ⌜ r ≡ number (bits (take 4 (drop i (now (bytes .entry))))) ⌝ }
+    ensures { λ r. ⌜ r ≡ numberLowFirst (bits (take 4 (drop i (now (bytes .entry))))) ⌝ }
 {
     word(bytes[i], bytes[i + 1], bytes[i + 2], bytes[i + 3])
 }
@@ -48,7 +48,7 @@ fn word_at(bytes: &[u8], i: usize) -> u32
 // Four bytes a turn, and the last ones one by one.
 fn divide(t: &[u32; 1024], bytes: &[u8]) -> u32
     requires { ⌜ now t ≡ rows ⌝ }
-    ensures { λ r. ⌜ r ≡ number (remainder (bits (now (bytes .entry)))) ⌝ }
+    ensures { λ r. ⌜ r ≡ numberLowFirst (remainder (bits (now (bytes .entry)))) ⌝ }
 {
     let mut r: u32 = 0;
     let mut i = 0;
@@ -63,9 +63,9 @@ fn divide(t: &[u32; 1024], bytes: &[u8]) -> u32
     r
 }
 
-// The remainder's 32 coefficients as a number, that of the highest power in the lowest bit.
+// The remainder's 32 coefficients as a numberLowFirst, that of the highest power in the lowest bit.
 pub fn remainder(bytes: &[u8]) -> u32
-    ensures { λ r. ⌜ r ≡ number (remainder (bits (now (bytes .entry)))) ⌝ }
+    ensures { λ r. ⌜ r ≡ numberLowFirst (remainder (bits (now (bytes .entry)))) ⌝ }
 {
     let t = table::table();
     divide(&t, bytes)

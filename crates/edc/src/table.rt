@@ -1,6 +1,6 @@
 // The table of the division: entry 256 k + x is what 8 (k + 1) steps of the register make of the byte x.
 ghost use mathlib.Core.Path.{_≡_};
-ghost use Rattle.edc.specs.Rows.{rows};
+ghost use Rattle.edc.specs.Inner.Rows.{rows};
 
 const TABLE: [u32; 1024] = [
     0x00000000,

@@ -1,4 +1,3 @@
-pub mod Told
+pub mod Verdicts
 pub mod Parities
-pub mod Runs
-pub mod Coders
+pub mod Once

@@ -4,7 +4,8 @@ ghost use mathlib.Core.List.{_++_};
 ghost use lib.ListN.{take, drop};
 ghost use Rattle.codeword.specs.Nearest.{verdict};
 ghost use Rattle.codeword.specs.Parity.{Parity};
-ghost use Rattle.exports.specs.Told.{sayVerdict, Tells, Told};
+ghost use Rattle.told.specs.Told.{Tells, Told};
+ghost use Rattle.exports.specs.Verdicts.{sayVerdict};
 use codeword::Verdict;
 
 fn tell(v: Verdict, change: &mut [u64; 2]) -> u8

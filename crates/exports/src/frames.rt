@@ -5,7 +5,7 @@ ghost use Rattle.outcome.specs.Say.{outcome};
 ghost use Rattle.scrambling.specs.Entry.{sayOf};
 ghost use Rattle.scrambling.specs.Frames.{cutting, joining};
 ghost use Rattle.scrambling.specs.Scramble.{scrambling};
-ghost use Rattle.exports.specs.Told.{numberOf, Told};
+ghost use Rattle.told.specs.Told.{numberOf, Told};
 use scrambling::Answer;
 
 fn tell(a: Answer) -> u8

@@ -1,7 +1,7 @@
 // Judging a Sector.
 ghost use mathlib.Core.Path.{_≡_};
 ghost use Rattle.judge.specs.Judging.{judging, sayOf};
-ghost use Rattle.exports.specs.Told.{Tells, Told};
+ghost use Rattle.told.specs.Told.{Tells, Told};
 use judge::Judged;
 
 // With a Sector that passes come its mode and address, with a codeword that fails its number.

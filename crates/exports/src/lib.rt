@@ -1,10 +1,9 @@
 // What programs in other languages call: each function hands over to one of the road and says the same.
-mod circ_runs;
+mod circ;
 mod codewords;
 mod elements;
 mod frames;
 mod judging;
-mod lending;
 mod remainders;
 mod repairing;
 mod section_reading;

@@ -1,11 +1,11 @@
 // The EDC.
 ghost use mathlib.Core.Path.{_≡_};
-ghost use Rattle.edc.specs.Bits.{bits, number};
+ghost use Rattle.edc.specs.Bits.{bits, numberLowFirst};
 ghost use Rattle.edc.specs.Edc.{remainder, edc, isZero};
 
 #[no_mangle]
 pub extern "C" fn road_edc_remainder(bytes: &[u8]) -> u32
-    ensures { λ r. ⌜ r ≡ number (remainder (bits (now (bytes .entry)))) ⌝ }
+    ensures { λ r. ⌜ r ≡ numberLowFirst (remainder (bits (now (bytes .entry)))) ⌝ }
 {
     edc::remainder(bytes)
 }

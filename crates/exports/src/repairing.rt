@@ -1,6 +1,6 @@
 // Repair of a Sector.
 ghost use Rattle.repair.specs.Repair.{Repairs, sayOf};
-ghost use Rattle.exports.specs.Told.{Tells, Told};
+ghost use Rattle.told.specs.Told.{Tells, Told};
 use repair::Repaired;
 
 // With a Sector that is handed out comes the count of changed bytes.

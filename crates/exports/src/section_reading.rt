@@ -1,7 +1,7 @@
 // Reading a Section.
 ghost use mathlib.Core.Path.{_≡_};
 ghost use Rattle.section_reader.specs.ReadSay.{sayRead, readOut, sectionRead};
-ghost use Rattle.exports.specs.Told.{Tells, Told};
+ghost use Rattle.told.specs.Told.{Tells, Told};
 use section_reader::SectionRead;
 
 // With refusal 8 comes the number of a frame.

@@ -4,7 +4,7 @@ ghost use mathlib.Core.List.{[]};
 ghost use Rattle.calls.specs.Step.{step};
 ghost use Rattle.section_writer.specs.State.{fresh};
 ghost use Rattle.section_writer.specs.WriteSay.{sayWritten, written};
-ghost use Rattle.exports.specs.Told.{numberOf, Told};
+ghost use Rattle.told.specs.Told.{numberOf, Told};
 use section_writer::SectionWriter;
 use section_writer::SectionWritten;
 

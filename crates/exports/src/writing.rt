@@ -2,7 +2,7 @@
 ghost use mathlib.Core.Path.{_≡_};
 ghost use mathlib.Core.List.{[]};
 ghost use Rattle.writer.specs.Write.{Writes, sayOf};
-ghost use Rattle.exports.specs.Told.{numberOf, Told};
+ghost use Rattle.told.specs.Told.{numberOf, Told};
 use address::HeaderTime;
 use writer::Written;
 

@@ -1,6 +1,6 @@
 -- The fate of a Sector in the report (document 01, "The report"): what repair says of it.
 -- Assumes nothing.
-use mathlib.Core.Path.{_≡_, sym, ap₂, _∙_}
+use mathlib.Core.Path.{_≡_}
 use mathlib.Core.Bool.{cond}
 use mathlib.Core.List.{List, [], _∷_}
 use Prim.Native.Nat.{ℕ}
@@ -8,9 +8,9 @@ use lib.Dec.{eqb}
 use Rattle.outcome.specs.Say.{Say, done, refused}
 use Rattle.sector.specs.Layout.{timeOf, zeros}
 use Rattle.repair.specs.Repair.{Repairs}
-use Rattle.repair.specs.Repair.One.{repair-one}
 use Rattle.text.specs.declared.Fate.{Fate}
 use Rattle.text.specs.declared.Fate.the-variants.{Clean, Repaired, Refused}
+pub mod One
 
 -- Clean means none changed; with a Sector come bytes 12 to 14 of what is handed out, with a refusal its number
 abbrev pub fateFrom : Say → List ℕ → Fate
@@ -24,9 +24,3 @@ pub record Fated (r : List ℕ) (fate : Fate) : Type 0 where
   pub handed : List ℕ
   pub repairs : Repairs r (zeros 2352) say handed
   pub is : fate ≡ fateFrom say handed
-
--- there is only one
-pub fate-one : (r : List ℕ) (a b : Fate) → Fated r a → Fated r b → a ≡ b
-fate-one r a b f g =
-    let e = repair-one r (zeros 2352) (f .repairs) (g .repairs) in
-    f .is ∙ ap₂ fateFrom (e .0) (e .1) ∙ sym (g .is)

@@ -5,9 +5,9 @@ use Prim.Native.Nat.{ℕ, zero, suc, _-_, _*_, _/_, _%_, _≤_, _<_}
 use native.Mathlib.Nat.{zero-mul, one-mul}
 use native.Mathlib.Omega.{arith}
 use lib.Bits.{bitXor, xor-zero-r}
-use Rattle.xor.specs.Laws.{xor-assoc, bit-lt}
+use Rattle.xor.specs.Xor.Group.{xor-assoc, bit-lt}
 use Rattle.field.specs.Field.{timesAlpha, mulBits, mul}
-use Rattle.field.specs.Powers.{timesAlpha-lt}
+use Rattle.field.specs.Field.Powers.{timesAlpha-lt}
 
 -- of the product m, s is summed; n bits of the second factor are left in b, and a is the first one times as many α as are done
 pub record Summing (m n a b s : ℕ) : Type 0 where

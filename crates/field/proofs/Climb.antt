@@ -6,8 +6,8 @@ use Prim.Native.Nat.{ℕ, zero, suc, _+_, _%_, _≤_, _<_}
 use native.Mathlib.Numerals.{add-one}
 use native.Mathlib.Omega.{arith}
 use Rattle.field.specs.Field.{power, mul}
-use Rattle.field.specs.Linear.{mul-zero-l, mul-zero-r}
-use Rattle.field.specs.Powers.{power-lt, power-zero, power-nonzero, power-mod, mul-power, byte-ind}
+use Rattle.field.specs.Field.Linear.{mul-zero-l, mul-zero-r}
+use Rattle.field.specs.Field.Powers.{power-lt, power-zero, power-nonzero, power-mod, mul-power, byte-ind}
 use Rattle.field.specs.Inverse.{InverseOf}
 
 -- after n turns

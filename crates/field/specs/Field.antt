@@ -2,6 +2,10 @@
 -- Assumes nothing.
 use Prim.Native.Nat.{ℕ, zero, suc, _*_, _/_, _%_}
 use lib.Bits.{bitXor}
+pub mod Linear
+pub mod Exponents
+pub mod Powers
+pub mod Product
 
 -- times α: double; where bit 7 was set, take the polynomial, (11D), off
 unfoldable pub timesAlpha : ℕ → ℕ

@@ -1,6 +1,3 @@
+-- Annex A.3, Annex C.7
 pub mod Field
-pub mod Linear
-pub mod Exponents
-pub mod Powers
-pub mod Laws
 pub mod Inverse

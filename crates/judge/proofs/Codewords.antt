@@ -7,7 +7,7 @@ use Prim.Native.Nat.{ℕ, _/_, _%_, _≤_, _<_}
 use native.Mathlib.Omega.{arith}
 use lib.ListN.{length, getD}
 use Rattle.outcome.specs.Bytes.{Bytes}
-use Rattle.outcome.specs.First.{lt-or-le}
+use Rattle.outcome.specs.First.Found.{lt-or-le}
 use Rattle.rspc.specs.Words.{place, qNumber}
 use Rattle.rspc.specs.Words.P.{length-p, p-at, bytes-p}
 use Rattle.rspc.specs.Words.Q.{length-q, q-at, q-data, q-parity, bytes-q}

@@ -7,14 +7,16 @@ use Prim.Native.Nat.{ℕ, zero, suc, _+_, _≤_, _<_}
 use native.Mathlib.Omega.{arith}
 use lib.Bits.{bitXor}
 use lib.ListN.{length, getD, take}
-use Rattle.outcome.specs.Bytes.{Bytes, bytes-take}
-use Rattle.outcome.specs.First.{firstBelow, found-first}
+use Rattle.outcome.specs.Bytes.{Bytes}
+use Rattle.outcome.specs.Bytes.Kept.{bytes-take}
+use Rattle.outcome.specs.First.{firstBelow}
+use Rattle.outcome.specs.First.Found.{found-first}
 use Rattle.field.specs.Field.{timesAlpha, power, mul}
-use Rattle.field.specs.Laws.{mul-power-suc}
+use Rattle.field.specs.Field.Product.{mul-power-suc}
 use Rattle.codeword.specs.Code.{sum, Codeword}
 use Rattle.codeword.specs.Nearest.{isCodeword}
-use Rattle.codeword.specs.NearLaws.{code-of-test, test-of-code}
-use Rattle.codeword.specs.Sums.{sum-lt, sum-none, sum-step, sum-all, times-0}
+use Rattle.codeword.specs.Code.NearOne.{code-of-test, test-of-code}
+use Rattle.codeword.specs.Code.Sums.{sum-lt, sum-none, sum-step, sum-all, times-0}
 
 -- the sums of the first r bytes of w
 pub record Summing (w : List ℕ) (r s0 s1 : ℕ) : Type 0 where

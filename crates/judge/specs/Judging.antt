@@ -19,6 +19,7 @@ use Rattle.judge.specs.declared.Parity.{Parity}
 use Rattle.judge.specs.declared.Parity.the-variants.{P, Q}
 use Rattle.judge.specs.declared.Judged.{Judged}
 use Rattle.judge.specs.declared.Judged.the-variants.{Passed, WrongIncoming, WrongSync, UnknownMode, WrongAddress, WrongEdc, WrongIntermediate, WrongP, WrongQ, WrongFiller}
+pub mod Demanded
 pub mod Exact
 pub mod Told
 

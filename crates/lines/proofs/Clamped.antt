@@ -8,8 +8,8 @@ use native.Mathlib.Omega.{arith}
 use borrow.Rule.Slice.PartMut.{putMid}
 use lib.ListN.{length, take, drop, drop-of-length-le, length-drop}
 use lib.Seq.{take-all, drop-drop}
-use Rattle.outcome.specs.First.{lt-or-le}
-use Rattle.outcome.specs.Part.{part-back}
+use Rattle.outcome.specs.First.Found.{lt-or-le}
+use Rattle.outcome.specs.Buffer.Part.{part-back}
 use Rattle.lines.specs.Delay.{rowsOut, rowsNext}
 use Rattle.lines.specs.Parts.{part, sectioned}
 

@@ -7,7 +7,7 @@ use Prim.Native.Nat.{ℕ, _+_, _-_, _≤_, _<_}
 use native.Mathlib.Omega.{arith}
 use lib.ListN.{length, take, drop, length-append, length-drop, drop-of-length-le, take-append-drop}
 use lib.Seq.{drop-append-le, length-take-le}
-use Rattle.outcome.specs.First.{lt-or-le}
+use Rattle.outcome.specs.First.Found.{lt-or-le}
 use Rattle.lines.specs.Delay.{lineNext, rowsOut, rowsNext}
 use Rattle.lines.specs.Lines.{length-next}
 use Rattle.lines.proofs.Going.{Going}

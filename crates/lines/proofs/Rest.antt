@@ -8,7 +8,7 @@ use native.Mathlib.Numerals.{add-one}
 use native.Mathlib.Omega.{arith}
 use lib.ListN.{length, take, drop, getD, drop-of-length-le}
 use lib.Seq.{take-all, drop-cons}
-use Rattle.outcome.specs.First.{lt-or-le}
+use Rattle.outcome.specs.First.Found.{lt-or-le}
 use Rattle.lines.specs.Delay.{lineOut, lineNext, rowsOut, rowsNext}
 
 -- a line ends at the store's end

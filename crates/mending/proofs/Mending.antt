@@ -10,7 +10,7 @@ use lib.Seq.{ext-getD, getD-set-same, getD-set-other}
 use Rattle.codeword.specs.Code.{sum, sums}
 use Rattle.codeword.specs.Nearest.{nearest, mended}
 use Rattle.codeword.specs.Fault.{fault, cure}
-use Rattle.codeword.specs.FaultLaws.{nearest-by-sums}
+use Rattle.codeword.specs.Fault.Decides.{nearest-by-sums}
 use Rattle.codeword.specs.declared.Fault.{Fault}
 use Rattle.codeword.specs.declared.Fault.the-variants.{Clean, At, Lost}
 use Rattle.rspc.specs.Words.{pNumber, pWords, pPlace, pWord}

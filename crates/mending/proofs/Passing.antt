@@ -10,12 +10,12 @@ use native.Mathlib.Omega.{arith}
 use lib.Bits.{bitXor}
 use lib.ListN.{length, getD, set, take, drop, length-set}
 use lib.Seq.{take-set-le, drop-set-lt}
-use Rattle.outcome.specs.First.{lt-or-le}
+use Rattle.outcome.specs.First.Found.{lt-or-le}
 use Rattle.outcome.specs.Table.{allBelow}
 use Rattle.codeword.specs.Code.{sum}
 use Rattle.codeword.specs.Nearest.{nearest}
 use Rattle.codeword.specs.Fault.{fault}
-use Rattle.codeword.specs.FaultLaws.{fault-inside}
+use Rattle.codeword.specs.Fault.Decides.{fault-inside}
 use Rattle.codeword.specs.declared.Fault.{Fault}
 use Rattle.codeword.specs.declared.Fault.the-variants.{Clean, At, Lost}
 use Rattle.rspc.specs.Words.{pWords, pPlace, pWord}

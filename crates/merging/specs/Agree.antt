@@ -8,7 +8,7 @@ use native.Mathlib.Omega.{arith}
 use borrow.Author.Tests.{eqb-true, eqb-false, eq-eqb, ne-eqb}
 use lib.Dec.{T, eqb, ltb}
 use lib.ListN.{length}
-use Rattle.outcome.specs.Table.{and-left, and-right}
+use Rattle.outcome.specs.Table.Entries.{and-left, and-right}
 use Rattle.merging.specs.Rule.{header, starts, headers, allowed}
 use Rattle.merging.specs.Automaton.{steps, live, shown, start22}
 use Rattle.merging.specs.Chosen.{better, beforeWord, beforeHeader, m100, m010, m001, m000}

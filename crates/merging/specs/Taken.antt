@@ -4,7 +4,8 @@ use mathlib.Core.Bool.{Bool, true, false, cond}
 use mathlib.Core.List.{List}
 use Prim.Native.Nat.{ℕ, _<_, _%_}
 use lib.Dec.{T, leb, ltb, ltb→lt}
-use Rattle.outcome.specs.Table.{allBelow, below, and-left}
+use Rattle.outcome.specs.Table.{allBelow}
+use Rattle.outcome.specs.Table.Entries.{below, and-left}
 use Rattle.bits.specs.Bits.{bitsOf}
 use Rattle.words.specs.Words.{words, wordOf, sync0, sync1}
 use Rattle.words.specs.Every.{every, each}

@@ -1,7 +1,8 @@
+-- what every entry answers
 pub mod Say
 pub mod Bytes
-pub mod Fill
-pub mod Lengths
-pub mod Part
+-- searches and tables
 pub mod First
 pub mod Table
+-- a lent buffer that a loop fills
+pub mod Buffer

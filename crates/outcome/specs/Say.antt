@@ -1,13 +1,11 @@
 -- What every entry answers (document 01, "Numbers that come back"), and what a refusal leaves in an outgoing buffer.
 -- Assumes nothing.
-use mathlib.Core.Path.{_≡_}
 use mathlib.Core.Bool.{Bool, true, false, cond}
 use mathlib.Core.List.{List, []}
 use Prim.Native.Nat.{ℕ}
-use native.Mathlib.Omega.{arith}
-use borrow.Author.Tests.{eq-eqb, ne-eqb}
 use lib.Dec.{eqb}
 use lib.ListN.{length, replicate}
+pub mod Refusals
 
 -- a step is done, with the values that come back with it, or refused with document 01's number and the values that come with that
 pub data Say : Type 0 where
@@ -39,22 +37,3 @@ outcome s o = record { say = s; out = o }
 -- a step whose answer is s, with the right length of its buffer, the new bytes where it is done, and what the buffer held
 abbrev pub answered : Say → ℕ → List ℕ → List ℕ → Outcome
 answered s right new old = outcome s (leaves s right new old)
-
--- ---- laws
-
-pub cleared-right : (right : ℕ) (old : List ℕ) → length old ≡ right → cleared right old ≡ replicate right 0
-cleared-right right old e = simp (eq-eqb (length old) right e)
-
-pub cleared-wrong : (right : ℕ) (old : List ℕ) → (length old ≡ right → ⊥) → cleared right old ≡ old
-cleared-wrong right old e = simp (ne-eqb (length old) right e)
-
--- a demand that is met leaves the rest to decide; one that isn't decides
-pub demand-met : (t : Bool) (n : ℕ) (rest : Say) → t ≡ true → demand t n rest ≡ rest
-demand-met t n rest e = rw e
-
-pub demand-unmet : (t : Bool) (n : ℕ) (rest : Say) → t ≡ false → demand t n rest ≡ refused n []
-demand-unmet t n rest e = rw e
-
--- nothing is both refused and done
-pub never : {n : ℕ} {u v : List ℕ} {A : Type 0} → refused n u ≡ done v → A
-never e = let z : _≡_ {A = ℕ} 0 1 = cc in absurd (omega arith)

@@ -7,9 +7,10 @@ use native.Mathlib.Omega.{arith}
 use borrow.Rule.Slice.PartMut.{putMid}
 use lib.ListN.{length, getD, set, take, drop, length-take, length-drop}
 use lib.Seq.{ext-getD, getD-take, getD-drop}
-use Rattle.outcome.specs.Fill.{Filling, filling-none, filling-more, filling-part, filling-all, filling-long}
-use Rattle.outcome.specs.Part.{part-back}
-use Rattle.outcome.specs.Table.{length-tabulated, tabulated-at}
+use Rattle.outcome.specs.Buffer.{Filling}
+use Rattle.outcome.specs.Buffer.Filled.{filling-none, filling-more, filling-part, filling-all, filling-long}
+use Rattle.outcome.specs.Buffer.Part.{part-back}
+use Rattle.outcome.specs.Table.Entries.{length-tabulated, tabulated-at}
 use Rattle.rspc.specs.Words.{place}
 use Rattle.parities.specs.Inner.Gather.{qByte, qRow, qRows}
 

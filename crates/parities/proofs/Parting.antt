@@ -10,11 +10,11 @@ use native.Mathlib.Omega.{arith}
 use lib.ListN.{length, getD, set, length-set}
 use lib.Seq.{getD-set-same, getD-set-other}
 use Rattle.outcome.specs.Bytes.{Bytes}
-use Rattle.outcome.specs.First.{lt-or-le}
+use Rattle.outcome.specs.First.Found.{lt-or-le}
 use Rattle.field.specs.Field.{power, mul}
 use Rattle.codeword.specs.Code.{sum, Codeword}
 use Rattle.codeword.specs.Parity.{WithSums}
-use Rattle.codeword.specs.ParityLaws.{parity-from-sums}
+use Rattle.codeword.specs.Parity.One.{parity-from-sums}
 use Rattle.sweep.specs.Columns.{Swept}
 use Rattle.sweep.specs.Columns.Fit.{swept-0, swept-1}
 use Rattle.sweep.specs.Columns.Sums.{bytes-column, length-sums, sums-at}

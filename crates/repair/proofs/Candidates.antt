@@ -8,11 +8,11 @@ use native.Mathlib.Omega.{arith}
 use borrow.Author.Tests.{eq-eqb, eqb-true}
 use lib.Dec.{T, eqb}
 use lib.ListN.{take}
-use Rattle.outcome.specs.Table.{and-left, and-right, true-of, of-true}
-use Rattle.codeword.specs.NearLaws.{near-unique}
+use Rattle.outcome.specs.Table.Entries.{and-left, and-right, true-of, of-true}
+use Rattle.codeword.specs.Code.NearOne.{near-one}
 use Rattle.edc.specs.Bits.{bits}
 use Rattle.edc.specs.Edc.{remainder, isZero}
-use Rattle.edc.specs.Zero.{test-divisible, divisible-test}
+use Rattle.edc.specs.Edc.Zero.{test-divisible, divisible-test}
 use Rattle.rspc.specs.Words.{pWord}
 use Rattle.rspc.specs.Words.P.{length-p, p-covers}
 use Rattle.rspc.specs.Words.Parity.{q-one}
@@ -81,7 +81,7 @@ sought-candidate r s t c g =
     let h = g .correct .correct .head in
     let covered =
     p-covers t s
-    (λ n l. near-unique 2 (pWord r n) (pWord t n) (pWord s n) (omega arith) (omega (arith, length-p r n)) (sought-near r t g n l) (c .p n l)) in
+    (λ n l. near-one 2 (pWord r n) (pWord t n) (pWord s n) (omega arith) (omega (arith, length-p r n)) (sought-near r t g n l) (c .p n l)) in
     whole t s (h .long) (c .long) (h .synced ∙ sym (c .synced)) covered
     (q-one t s (h .bytes) (c .bytes) covered (g .correct .correct .mode01 (g .correct .mode) .q) (c .q))
 

@@ -10,11 +10,11 @@ use lib.Dec.{T, eqb}
 use lib.ListN.{length, take, drop, length-append, length-drop}
 use lib.Seq.{length-take-le, take-at, take-take, drop-at}
 use Rattle.outcome.specs.Bytes.{Bytes}
-use Rattle.outcome.specs.Lengths.{same-lengths}
-use Rattle.outcome.specs.Table.{below, all-below, true-of, of-true}
+use Rattle.outcome.specs.Buffer.Lengths.{same-lengths}
+use Rattle.outcome.specs.Table.Entries.{below, all-below, true-of, of-true}
 use Rattle.codeword.specs.Code.{Near}
 use Rattle.codeword.specs.Nearest.{nearest}
-use Rattle.codeword.specs.NearestLaws.{nearest-sound, nearest-complete}
+use Rattle.codeword.specs.Nearest.Finds.{nearest-sound, nearest-complete}
 use Rattle.rspc.specs.Words.{pWord, SameCovered}
 use Rattle.rspc.specs.Words.P.{length-p, p-same, bytes-p}
 use Rattle.lists.specs.Agree.{same-front, same-back}

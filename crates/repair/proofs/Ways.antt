@@ -7,9 +7,10 @@ use Prim.Native.Nat.{ℕ}
 use borrow.Author.Tests.{not-true, not-false}
 use lib.Dec.{eqb}
 use lib.ListN.{length, replicate}
-use Rattle.outcome.specs.Say.{Say, done, refused, cleared, cleared-right, cleared-wrong}
+use Rattle.outcome.specs.Say.{Say, done, refused, cleared}
+use Rattle.outcome.specs.Say.Refusals.{cleared-right, cleared-wrong}
 use Rattle.outcome.specs.Bytes.{Bytes}
-use Rattle.outcome.specs.Lengths.{same-lengths}
+use Rattle.outcome.specs.Buffer.Lengths.{same-lengths}
 use Rattle.codeword.specs.Code.{changes}
 use Rattle.repair.specs.Repair.{Sought, Repairs, wrong-incoming, wrong-outgoing, none-near, handed-out}
 use Rattle.repair.specs.Inner.Candidate.{rules, Candidate, FoundFor, HandsOut}

@@ -10,8 +10,10 @@ use Rattle.text.specs.declared.Counts.{Counts}
 use Rattle.text.specs.declared.Fate.{Fate}
 use Rattle.text.specs.declared.Fate.the-variants.{Clean, Repaired, Refused}
 use Rattle.text.specs.declared.Text.{Text}
-use Rattle.text.specs.Counting.{largest, noneCounted, countedWith, one-more}
-use Rattle.text.specs.Line.{Holds, written, holds-written}
+use Rattle.text.specs.Counting.{largest, noneCounted, countedWith}
+use Rattle.text.specs.Counting.Room.{one-more}
+use Rattle.text.specs.Line.{Holds, written}
+use Rattle.text.specs.Line.More.{holds-written}
 use Rattle.text.specs.Report.{firstLine, fateLine, lastLine}
 use Rattle.reporting.specs.declared.Progress.{Progress}
 use Rattle.reporting.specs.declared.reading.Read.{Read}

@@ -6,7 +6,8 @@ use Prim.Native.Nat.{ℕ, zero, suc, _*_}
 use native.Mathlib.Omega.{arith}
 use lib.ListN.{length, take}
 use lib.Seq.{getD-take, length-take-le, ext-getD}
-use Rattle.outcome.specs.Table.{tabulated, length-tabulated, tabulated-from}
+use Rattle.outcome.specs.Table.{tabulated}
+use Rattle.outcome.specs.Table.Entries.{length-tabulated, tabulated-from}
 use Rattle.scrambling.specs.Sequence.{next, register, bit, byteOf, byteAt, sequence}
 use Rattle.scrambling.specs.Sequence.Follows.{length-register, register-at}
 

@@ -8,13 +8,14 @@ use native.Mathlib.Omega.{arith}
 use borrow.Rule.Slice.PartMut.{putMid}
 use lib.Dec.{eqb}
 use lib.ListN.{length, getD, set, take, drop}
-use Rattle.outcome.specs.Fill.{Filling, filling-long, filling-more, filling-part}
-use Rattle.outcome.specs.Part.{part-back}
+use Rattle.outcome.specs.Buffer.{Filling}
+use Rattle.outcome.specs.Buffer.Filled.{filling-long, filling-more, filling-part}
+use Rattle.outcome.specs.Buffer.Part.{part-back}
 use Rattle.scrambling.specs.Exchange.{exchanged}
 use Rattle.scrambling.specs.Exchange.Pairs.{length-exchanged, exchanged-at}
 use Rattle.scrambling.specs.Frames.{frame}
 use Rattle.scrambling.specs.Frames.Placed.{length-frame, f1-exchanged, frame-f1}
-use Rattle.outcome.specs.Lengths.{same-lengths}
+use Rattle.outcome.specs.Buffer.Lengths.{same-lengths}
 
 pub pair-more : (d s out : List ℕ) (k : ℕ) → Filling d (exchanged s) (2 * k) out → 2 * k + 1 < length s
     → Filling d (exchanged s) (2 * (k + 1)) (set (set out (2 * k) (getD s (2 * k + 1) 0)) (2 * k + 1) (getD s (2 * k) 0))

@@ -10,12 +10,12 @@ use borrow.Rule.Slice.PartMut.{putMid}
 use lib.Dec.{eqb}
 use lib.ListN.{length, take, drop, length-drop}
 use lib.Seq.{take-all}
-use Rattle.outcome.specs.Part.{end-back}
-use Rattle.xor.specs.Lists.{added}
+use Rattle.outcome.specs.Buffer.Part.{end-back}
+use Rattle.xor.specs.Added.{added}
 use Rattle.scrambling.specs.Sequence.Follows.{length-sequence}
 use Rattle.scrambling.specs.Scramble.{scrambled}
 use Rattle.scrambling.specs.Sequence.{sequence}
-use Rattle.outcome.specs.Lengths.{same-lengths}
+use Rattle.outcome.specs.Buffer.Lengths.{same-lengths}
 
 -- a part that reaches to the end
 to-end : (s : List ℕ) → take (length s - 12) (drop 12 s) ≡ drop 12 s

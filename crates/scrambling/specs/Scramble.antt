@@ -4,7 +4,7 @@ use mathlib.Core.List.{List, _++_}
 use Prim.Native.Nat.{ℕ, _+_}
 use lib.ListN.{take, drop}
 use Rattle.outcome.specs.Say.{Outcome}
-use Rattle.xor.specs.Lists.{added}
+use Rattle.xor.specs.Added.{added}
 use Rattle.scrambling.specs.Entry.{answering}
 use Rattle.scrambling.specs.Sequence.{sequence}
 pub mod Twice

@@ -6,8 +6,9 @@ use mathlib.Core.List.{List}
 use Prim.Native.Nat.{ℕ, _+_, _*_, _≤_, _<_}
 use native.Mathlib.Omega.{arith}
 use lib.ListN.{length, set, getD}
-use Rattle.outcome.specs.Fill.{Filling, filling-none, filling-more, filling-long, filling-all}
-use Rattle.outcome.specs.Table.{tabulated-at, length-tabulated}
+use Rattle.outcome.specs.Buffer.{Filling}
+use Rattle.outcome.specs.Buffer.Filled.{filling-none, filling-more, filling-long, filling-all}
+use Rattle.outcome.specs.Table.Entries.{tabulated-at, length-tabulated}
 use Rattle.bits.specs.Bits.{unpack}
 use Rattle.bits.specs.Packed.{length-unpack}
 use Rattle.words.specs.Words.{byteOf}

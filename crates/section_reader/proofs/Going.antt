@@ -10,8 +10,9 @@ use native.Mathlib.Numerals.{add-one}
 use native.Mathlib.Omega.{arith}
 use borrow.Rule.Slice.PartMut.{midOf, putMid, put-same, mid-len}
 use lib.ListN.{length, take, drop}
-use Rattle.outcome.specs.Fill.{Filling, filling-none, filling-part, filling-long, filling-all}
-use Rattle.outcome.specs.Part.{part-back}
+use Rattle.outcome.specs.Buffer.{Filling}
+use Rattle.outcome.specs.Buffer.Filled.{filling-none, filling-part, filling-long, filling-all}
+use Rattle.outcome.specs.Buffer.Part.{part-back}
 use Rattle.bits.specs.Bits.{unpack}
 use Rattle.section_reader.specs.declared.reader.Frame.{Frame}
 use Rattle.section_reader.specs.declared.reader.Frame.the-variants.{Read, NoHeader}

@@ -6,7 +6,8 @@ use mathlib.Core.Option.{Option, none, some}
 use Prim.Native.Nat.{ℕ}
 use lib.ListN.{length, replicate, length-replicate}
 use borrow.Author.Tests.{eq-eqb, ne-eqb}
-use Rattle.outcome.specs.Say.{Say, done, refused, cleared, leaves, cleared-right, cleared-wrong}
+use Rattle.outcome.specs.Say.{Say, done, refused, cleared, leaves}
+use Rattle.outcome.specs.Say.Refusals.{cleared-right, cleared-wrong}
 use Rattle.bits.specs.Bits.{unpack}
 use Rattle.section_reader.specs.Reading.{firstHeadless, bytesRead, marksRead}
 use Rattle.section_reader.specs.ReadSay.{readOut, headersSay, readSay, sectionRead}

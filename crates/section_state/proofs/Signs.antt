@@ -11,7 +11,7 @@ use lib.IntN.{ℤ, pos, negsuc, natAbs, subℕ, _-ℤ_}
 use lib.Signed.{ltZ, nonNeg, mag}
 use mir.Syntax.{w64}
 use mir.Val.{SFits, ofZ}
-use Rattle.outcome.specs.First.{lt-or-le}
+use Rattle.outcome.specs.First.Found.{lt-or-le}
 use Rattle.section_state.specs.Carried.{above, below, levelRight, levelNow, levelThen}
 
 pub under : (d : ℤ) → ltZ d (pos 0) ≡ true → 0 ≡ above d

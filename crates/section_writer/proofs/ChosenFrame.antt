@@ -8,7 +8,7 @@ use Prim.Native.Nat.{ℕ, zero, suc, _+_, _*_, _≤_, _<_, _^_}
 use native.Mathlib.Omega.{arith}
 use lib.Dec.{T}
 use lib.ListN.{length, getD}
-use Rattle.outcome.specs.First.{lt-or-le}
+use Rattle.outcome.specs.First.Found.{lt-or-le}
 use Rattle.bits.specs.Bits.{bitsOf}
 use Rattle.words.specs.Words.{wordOf, sync0, sync1}
 use Rattle.merging.specs.Agree.{Takes, taken, header-agrees, header-passes}

@@ -9,7 +9,8 @@ use native.Mathlib.Omega.{arith}
 use borrow.Author.Tests.{eq-eqb, ne-eqb}
 use lib.ListN.{length, getD, set}
 use lib.Seq.{getD-set-same, getD-set-other, ext-getD}
-use Rattle.outcome.specs.Table.{tabulated, length-tabulated, tabulated-at}
+use Rattle.outcome.specs.Table.{tabulated}
+use Rattle.outcome.specs.Table.Entries.{length-tabulated, tabulated-at}
 use Rattle.words.specs.Words.{wordOf}
 use Rattle.choosing.specs.Symbols.{symbols, wordsOf}
 use Rattle.choosing.specs.Symbols.Which.{symbol-word, symbol-256, symbol-257, words-length, words-at}

@@ -3,15 +3,17 @@
 use mathlib.Core.Path.{_≡_, sym, ap, ap₂, _∙_, subst}
 use mathlib.Core.Bool.{Bool, true, false}
 use mathlib.Core.List.{List, []}
-use Prim.Native.Nat.{ℕ, _<_, _≤_}
+use Prim.Native.Nat.{ℕ}
+use lib.Dec.{ltb}
 use lib.IntN.{ℤ}
 use mir.Syntax.{w64}
 use mir.Val.{SFits, toZ, ofZ}
 use mir.ValLaws.{toZ-ofZ}
 use lib.ListN.{length, replicate}
-use borrow.Author.Tests.{eq-eqb, ne-eqb, lt-ltb, le-ltb}
+use borrow.Author.Tests.{eq-eqb, ne-eqb}
 use Rattle.outcome.specs.Bytes.{Bytes}
-use Rattle.outcome.specs.Say.{done, refused, cleared, leaves, cleared-right, cleared-wrong}
+use Rattle.outcome.specs.Say.{done, refused, cleared, leaves}
+use Rattle.outcome.specs.Say.Refusals.{cleared-right, cleared-wrong}
 use Rattle.calls.specs.Step.{Step, step, handedBack}
 use Rattle.bits.specs.Bits.{pack, unpack}
 use Rattle.bits.specs.Packed.{packed}
@@ -58,19 +60,19 @@ module _ (s : SectionWriter) (frames control out : List ℕ) where
           ap (step (refused 9 []) s) (zeros o e)
           ∙ refusal 9 (simp (eq-eqb (length frames) 3136 f, eq-eqb (length control) 96 k, eq-eqb (length out) 7203 l, r))
 
-      pub full : right s ≡ true → mostSections ≤ s .sections → (o : List ℕ) → o ≡ replicate (length out) 0 → step (refused 7 []) s o ≡ written s frames control out
+      pub full : right s ≡ true → ltb (s .sections) mostSections ≡ false → (o : List ℕ) → o ≡ replicate (length out) 0 → step (refused 7 []) s o ≡ written s frames control out
       unfolding writeSay
       full r n o e =
           ap (step (refused 7 []) s) (zeros o e)
-          ∙ refusal 7 (simp (eq-eqb (length frames) 3136 f, eq-eqb (length control) 96 k, eq-eqb (length out) 7203 l, r, le-ltb (s .sections) mostSections n))
+          ∙ refusal 7 (simp (eq-eqb (length frames) 3136 f, eq-eqb (length control) 96 k, eq-eqb (length out) 7203 l, r, n))
 
-      pub all-written : right s ≡ true → s .sections < mostSections → (t t′ : Tally) (next : SectionWriter) (o : List ℕ) → t ≡ beginning (s .dsv) (s .level)
+      pub all-written : right s ≡ true → ltb (s .sections) mostSections ≡ true → (t t′ : Tally) (next : SectionWriter) (o : List ℕ) → t ≡ beginning (s .dsv) (s .level)
           → FramesDone t frames control o t′ → next ≡ advanced (t′ .level) (t′ .plus) (t′ .minus) (s .sections) → Bytes o → length o ≡ 7203
           → step (done []) next o ≡ written s frames control out
       unfolding written writeSay section afterSection
       all-written r n t t′ next o b d a y z =
           let e : writeSay s frames control out ≡ done []
-          = simp (eq-eqb (length frames) 3136 f, eq-eqb (length control) 96 k, eq-eqb (length out) 7203 l, r, lt-ltb (s .sections) mostSections n) in
+          = simp (eq-eqb (length frames) 3136 f, eq-eqb (length control) 96 k, eq-eqb (length out) 7203 l, r, n) in
           let w = sectionAfter (levelNow (s .level)) (above (s .dsv)) (below (s .dsv)) frames control in
           let q : noted (unpack o) t′ ≡ w
           = d .is ∙ ap (λ (x : Tally). sectionAfter (x .level) (x .plus) (x .minus) frames control) b in

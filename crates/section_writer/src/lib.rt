@@ -86,8 +86,10 @@ impl SectionWriter {
         let dsv = self.dsv;
         let level = self.level;
         let sections = self.sections;
-        if section_state::is_possible(dsv, level, sections) {
-            if sections < 450000 {
+        let possible = section_state::is_possible(dsv, level, sections);
+        let room = sections < 450000;
+        if possible {
+            if room {
                 let before = section_state::begin(dsv, level);
                 let after = frame::write_frames(out, before, frames, control);
                 let next = advance(after, sections);

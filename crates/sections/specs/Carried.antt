@@ -9,8 +9,8 @@ use native.Mathlib.Omega.{arith}
 use borrow.Author.Tests.{lt-ltb, le-ltb, le-leb}
 use lib.Dec.{leb, leb→le}
 use lib.IntN.{ℤ, pos, negsuc, natAbs, subℕ}
-use Rattle.outcome.specs.First.{lt-or-le}
-use Rattle.outcome.specs.Table.{and-right, of-true}
+use Rattle.outcome.specs.First.Found.{lt-or-le}
+use Rattle.outcome.specs.Table.Entries.{and-right, of-true}
 use Rattle.merging.specs.Chosen.{Written}
 use Rattle.merging.specs.Dsv.{ups, downs}
 use Rattle.merging.specs.Levels.{ups-downs}

@@ -9,12 +9,14 @@ use lib.Bits.{bitXor}
 use lib.ListN.{length, getD}
 use lib.Seq.{ext-getD}
 use Rattle.outcome.specs.Bytes.{Bytes}
-use Rattle.outcome.specs.Table.{tabulated, tabulated-at, tabulated-more, length-tabulated, bytes-tabulated}
-use Rattle.xor.specs.Lists.{added, length-added, added-at}
+use Rattle.outcome.specs.Table.{tabulated}
+use Rattle.outcome.specs.Table.Entries.{tabulated-at, tabulated-more, length-tabulated, bytes-tabulated}
+use Rattle.xor.specs.Added.{added}
+use Rattle.xor.specs.Added.Places.{length-added, added-at}
 use Rattle.field.specs.Field.{timesAlpha, power, mul}
-use Rattle.field.specs.Laws.{mul-power-suc}
+use Rattle.field.specs.Field.Product.{mul-power-suc}
 use Rattle.codeword.specs.Code.{sum}
-use Rattle.codeword.specs.Sums.{sum-lt, sum-one, sum-append, times-0}
+use Rattle.codeword.specs.Code.Sums.{sum-lt, sum-one, sum-append, times-0}
 use Rattle.sweep.specs.Columns.{column, columnSums}
 use Rattle.sweep.specs.Columns.Sums.{bytes-column, length-sums, sums-at}
 use Rattle.sweep.specs.Inner.Rise.{risen}

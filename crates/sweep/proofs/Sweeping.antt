@@ -13,7 +13,7 @@ use lib.ListN.{length, getD, take, drop, replicate, length-take, length-drop, le
 use lib.Seq.{getD-take, getD-drop}
 use Rattle.outcome.specs.Bytes.{Bytes}
 use Rattle.outcome.specs.Table.{tabulated}
-use Rattle.xor.specs.Lists.{added}
+use Rattle.xor.specs.Added.{added}
 use Rattle.codeword.specs.Code.{sum}
 use Rattle.sweep.specs.Columns.{column, columnSums, allSums}
 use Rattle.sweep.specs.Columns.Sums.{length-sums}

@@ -4,8 +4,10 @@ use mathlib.Core.Path.{_≡_, sym}
 use mathlib.Core.List.{[], _∷_}
 use Prim.Native.Nat.{ℕ, _/_, _%_, _≤_, _<_}
 use Rattle.text.specs.declared.Text.{Text}
-use Rattle.text.specs.Numerals.{digit, decimal, decimal-one, decimal-more}
-use Rattle.text.specs.Line.{Appended, and-then, same-text, same-byte}
+use Rattle.text.specs.Numerals.{digit, decimal}
+use Rattle.text.specs.Numerals.Decimal.{decimal-one, decimal-more}
+use Rattle.text.specs.Line.{Appended}
+use Rattle.text.specs.Line.More.{and-then, same-text, same-byte}
 
 pub one-digit : {t u : Text} {n d : ℕ} → n < 10 → d ≡ digit n → Appended t (d ∷ []) u → Appended t (decimal n) u
 one-digit {n = n} h e p = same-text (sym (decimal-one n h)) (same-byte e p)

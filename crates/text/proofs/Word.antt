@@ -8,7 +8,8 @@ use native.Mathlib.Omega.{arith}
 use lib.ListN.{length, take, getD}
 use lib.Seq.{take-suc, take-all, length-take-le}
 use Rattle.text.specs.declared.Text.{Text}
-use Rattle.text.specs.Line.{Appended, none-more, and-then, same-text}
+use Rattle.text.specs.Line.{Appended}
+use Rattle.text.specs.Line.More.{none-more, and-then, same-text}
 
 pub record Writing (t : Text) (word : List ℕ) (i : ℕ) (to : Text) : Type 0 where
   pub upto : i ≤ length word

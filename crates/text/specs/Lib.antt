@@ -1,7 +1,7 @@
+-- document 01, "The report"
 pub mod Characters
 pub mod Numerals
-pub mod Reading
-pub mod Line
 pub mod Report
 pub mod Counting
-pub mod Examples
+-- a line in its buffer
+pub mod Line

@@ -10,8 +10,9 @@ use native.Mathlib.Omega.{arith}
 use borrow.Author.Tests.{lt-ltb}
 use lib.Dec.{T, eqb, ltb, eqb→eq}
 use lib.ListN.{length, getD, length-map, List·getD-map, List·getD-eq-default}
-use Rattle.outcome.specs.First.{lt-or-le}
-use Rattle.outcome.specs.Table.{tabulated, tabulated-at, length-tabulated}
+use Rattle.outcome.specs.First.Found.{lt-or-le}
+use Rattle.outcome.specs.Table.{tabulated}
+use Rattle.outcome.specs.Table.Entries.{tabulated-at, length-tabulated}
 use Rattle.words.specs.Words.{words, wordOf, placeOf}
 use Rattle.words.specs.Every.{every, each}
 use Rattle.words.specs.Facts.{how-many, nowhere}

@@ -7,7 +7,7 @@ use Prim.Native.Nat.{ℕ, zero, suc, _+_, _<_}
 use native.Mathlib.Nat.{not-suc-le-zero, le-of-suc-le-suc, add-zero, zero-add, add-suc, suc-add}
 use lib.Dec.{T}
 use lib.ListN.{length, getD}
-use Rattle.outcome.specs.Table.{and-left, and-right}
+use Rattle.outcome.specs.Table.Entries.{and-left, and-right}
 
 -- the test f passes at each entry and its place, counted from i
 abbrev pub every : (ℕ → ℕ → Bool) → ℕ → List ℕ → Bool

@@ -9,8 +9,8 @@ use lib.Dec.{eqb}
 use lib.ListN.{length, take, drop, length-append, length-drop}
 use lib.Seq.{take-at, drop-append-add, length-take-le}
 use borrow.Rule.Slice.PartMut.{putMid, midOf, mid-len}
-use Rattle.outcome.specs.Lengths.{same-lengths}
-use Rattle.outcome.specs.Part.{part-back}
+use Rattle.outcome.specs.Buffer.Lengths.{same-lengths}
+use Rattle.outcome.specs.Buffer.Part.{part-back}
 use Rattle.address.specs.declared.HeaderTime.{HeaderTime}
 use Rattle.sector.specs.Layout.{zeros}
 use Rattle.sector.specs.Layout.Zeros.{length-zeros, drop-zeros}

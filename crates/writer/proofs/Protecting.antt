@@ -8,10 +8,10 @@ use native.Mathlib.Omega.{arith}
 use lib.Dec.{eqb}
 use lib.ListN.{length, take, drop}
 use borrow.Rule.Slice.PartMut.{putMid, midOf, mid-len}
-use Rattle.outcome.specs.Lengths.{same-lengths}
-use Rattle.outcome.specs.Part.{part-back}
+use Rattle.outcome.specs.Buffer.Lengths.{same-lengths}
+use Rattle.outcome.specs.Buffer.Part.{part-back}
 use Rattle.edc.specs.Edc.{edc}
-use Rattle.edc.specs.Laws.{length-edc}
+use Rattle.edc.specs.Edc.Right.{length-edc}
 use Rattle.rspc.specs.Put.{PPut, PutP, PutQ}
 use Rattle.writer.specs.Inner.Protect.{Protects}
 use Rattle.writer.proofs.Protects.{withEdc, length-with, protects}

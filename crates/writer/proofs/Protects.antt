@@ -10,7 +10,7 @@ use lib.Seq.{take-take, take-at, drop-at, take-append-add, drop-append-add, leng
 use Rattle.outcome.specs.Bytes.{Bytes}
 use Rattle.codeword.specs.Code.{Codeword}
 use Rattle.edc.specs.Edc.{Divisible, edc}
-use Rattle.edc.specs.Laws.{edc-right, length-edc}
+use Rattle.edc.specs.Edc.Right.{edc-right, length-edc}
 use Rattle.rspc.specs.Words.{SameCovered}
 use Rattle.rspc.specs.Words.P.{p-same}
 use Rattle.lists.specs.Agree.{same-front, same-within}

@@ -7,9 +7,10 @@ use Prim.Native.Nat.{ℕ, _≤_, _<_}
 use borrow.Author.Tests.{eq-eqb, ne-eqb, le-leb, lt-leb, not-true, not-false}
 use lib.Dec.{eqb}
 use lib.ListN.{length}
-use Rattle.outcome.specs.Say.{done, refused, cleared, cleared-wrong}
+use Rattle.outcome.specs.Say.{done, refused, cleared}
+use Rattle.outcome.specs.Say.Refusals.{cleared-wrong}
 use Rattle.outcome.specs.Bytes.{Bytes}
-use Rattle.outcome.specs.Lengths.{same-lengths}
+use Rattle.outcome.specs.Buffer.Lengths.{same-lengths}
 use Rattle.address.specs.Address.{inRange}
 use Rattle.address.specs.declared.HeaderTime.{HeaderTime}
 use Rattle.sector.specs.Layout.{userLength}

@@ -3,7 +3,7 @@ ghost use mathlib.Core.Path.{_≡_};
 ghost use mathlib.Core.Bool.{cond};
 ghost use lib.Dec.{eqb};
 ghost use lib.ListN.{length};
-ghost use Rattle.xor.specs.Lists.{added};
+ghost use Rattle.xor.specs.Added.{added};
 
 // `what` is added to `to` and the answer is true; between different lengths nothing changes and the answer is false.
 pub fn add(to: &mut [u8], what: &[u8]) -> bool

@@ -1,6 +1,5 @@
 -- `address::two_digits` meets its contract: each way out has the tests that `twoDigits` asks.
 -- Assumes nothing.
-use mathlib.Core.Path.{_≡_, refl}
 use borrow.Author.Needs.{needs}
 use borrow.Author.Tests.{lt-ltb, le-ltb}
 use Rattle.address.specs.Address.{twoDigits}

@@ -1,8 +1,8 @@
 -- `circ::invert` meets its contract: the mask, which has as many rows, is added.
 -- Assumes nothing.
 use lib.ListN.{length}
-use Rattle.outcome.specs.Lengths.{same-lengths}
-use Rattle.xor.specs.Lists.{added}
+use Rattle.outcome.specs.Buffer.Lengths.{same-lengths}
+use Rattle.xor.specs.Added.{added}
 use Rattle.circ.specs.Rows.{mask, inverted}
 use borrow.Author.Needs.{needs}
 use Rattle.circ.proofs.invert.Statement.{statement}

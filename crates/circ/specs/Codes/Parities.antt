@@ -5,7 +5,8 @@ use mathlib.Core.List.{List, [], _∷_, _++_, append-nil}
 use Prim.Native.Nat.{ℕ, suc}
 use native.Mathlib.Nat.{mod-eq-of-lt}
 use lib.ListN.{length, take, drop}
-use Rattle.outcome.specs.Bytes.{Bytes, bytes-take, bytes-drop, bytes-nil}
+use Rattle.outcome.specs.Bytes.{Bytes}
+use Rattle.outcome.specs.Bytes.Kept.{bytes-take, bytes-drop, bytes-nil}
 use Rattle.codeword.specs.Parity.{Parity}
 use Rattle.circ.specs.Chains.{withQ, withP}
 use Rattle.circ.specs.Codes.{asBytes, parity, parityBetween, qOf, pOf}

@@ -4,7 +4,7 @@ use Prim.Native.Nat.{ℕ}
 use lib.ListN.{length, getD}
 use mir.Val.{Fits}
 use mir.Syntax.{w8}
-use Rattle.outcome.specs.Lengths.{same-lengths}
+use Rattle.outcome.specs.Buffer.Lengths.{same-lengths}
 use Rattle.circ_writer.proofs.Parities.{filled-p}
 use borrow.Author.Needs.{needs}
 use Rattle.circ_writer.proofs.fill_p.Statement.{statement}

@@ -1,9 +1,9 @@
--- `edc::holds` meets its contract: the test on the number is the test on the list (`zero-number`).
+-- `edc::holds` meets its contract: the test on the numberLowFirst is the test on the list (`zero-number`).
 -- Assumes nothing.
 use mathlib.Core.Path.{_∙_, sym, ap}
 use Prim.Native.Nat.{ℕ}
 use lib.Dec.{eqb}
-use Rattle.edc.specs.Zero.{zero-number}
+use Rattle.edc.specs.Edc.Zero.{zero-number}
 use borrow.Author.Needs.{needs}
 use Rattle.edc.proofs.holds.Statement.{statement}
 use Rattle.edc.proofs.holds.Tie as tie

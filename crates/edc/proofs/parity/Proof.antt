@@ -1,8 +1,8 @@
--- `edc::parity` meets its contract: the register after 32 steps more is the EDC's number, and its digits are the bytes (`edc-digits`).
+-- `edc::parity` meets its contract: the register after 32 steps more is the EDC's numberLowFirst, and its digits are the bytes (`edc-digits`).
 -- Assumes nothing.
 use mathlib.Core.Path.{_∙_, ap}
 use native.Mathlib.Omega.{arith}
-use Rattle.edc.specs.Register.{steps}
+use Rattle.edc.specs.Inner.Register.{steps}
 use Rattle.edc.proofs.Digits.{edc-digits}
 use borrow.Author.Needs.{needs}
 use Rattle.edc.proofs.parity.Statement.{statement}

@@ -6,7 +6,7 @@ use Prim.Native.Nat.{ℕ, _+_, _*_, _/_, _%_}
 use native.Mathlib.Omega.{arith}
 use lib.Bits.{bitXor}
 use lib.ListN.{getD}
-use Rattle.edc.specs.Register.{byte-steps}
+use Rattle.edc.specs.Inner.Register.{byte-steps}
 use Rattle.edc.proofs.Entries.{entry-8}
 use borrow.Author.Needs.{needs}
 use Rattle.edc.proofs.take_byte.Statement.{statement}

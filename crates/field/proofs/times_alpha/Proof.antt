@@ -6,7 +6,8 @@ use Prim.Native.Nat.{ℕ, _*_, _/_, _%_, _<_}
 use borrow.Author.Needs.{needs}
 use lib.Bits.{bitXor}
 use lib.Dec.{T, eqb, eqb→eq}
-use Rattle.outcome.specs.Table.{allBelow, below}
+use Rattle.outcome.specs.Table.{allBelow}
+use Rattle.outcome.specs.Table.Entries.{below}
 use Rattle.field.specs.Field.{timesAlpha}
 use Rattle.field.proofs.times_alpha.Statement.{statement}
 use Rattle.field.proofs.times_alpha.Tie as tie

@@ -1,84 +1,27 @@
 -- Judging passes exactly the correct Sectors, each with its mode and address.
 -- Assumes nothing.
-use mathlib.Core.Path.{_≡_, refl, sym, ap, _∙_}
-use mathlib.Core.Bool.{Bool, true, false, not, cond}
-use mathlib.Core.List.{List, [], _∷_}
-use Prim.Native.Nat.{ℕ, zero, suc, _≤_, _<_}
+use mathlib.Core.Path.{_≡_, refl, sym, _∙_}
+use mathlib.Core.List.{List}
+use Prim.Native.Nat.{ℕ, zero, suc, _≤_}
 use native.Mathlib.Omega.{arith}
-use borrow.Author.Tests.{eq-eqb, eqb-true, le-leb, leb-true, le-ltb, ltb-true, ltb-false, not-false}
-use lib.Dec.{eqb, leb, ltb}
+use borrow.Author.Tests.{eq-eqb, eqb-true, le-leb, leb-true}
+use lib.Dec.{eqb, leb}
 use lib.ListN.{length, take, drop}
-use Rattle.outcome.specs.Say.{Say, done, refused, demand, demand-met, never}
+use Rattle.outcome.specs.Say.{done}
+use Rattle.outcome.specs.Say.Refusals.{demand-met}
 use Rattle.outcome.specs.Bytes.{Bytes}
-use Rattle.outcome.specs.First.{firstBelow, first-below}
-use Rattle.codeword.specs.Code.{Codeword}
-use Rattle.codeword.specs.Nearest.{isCodeword}
-use Rattle.codeword.specs.NearLaws.{code-of-test, test-of-code}
 use Rattle.edc.specs.Bits.{bits}
 use Rattle.edc.specs.Edc.{remainder, isZero}
-use Rattle.edc.specs.Zero.{test-divisible, divisible-test}
+use Rattle.edc.specs.Edc.Zero.{test-divisible, divisible-test}
 use Rattle.rspc.specs.Words.{pWord, qWord}
 use Rattle.address.specs.Address.{inRange}
 use Rattle.sector.specs.Layout.{sync, bytesFrom, timeOf, modeOf, zeros}
 use Rattle.sector.specs.Correct.{Empty, Protected, Correct}
 use Rattle.lists.specs.Same.{same}
 use Rattle.lists.specs.Same.Equal.{same-equal, equal-same}
-use Rattle.judge.specs.declared.Parity.{Parity}
 use Rattle.judge.specs.declared.Parity.the-variants.{P, Q}
-use Rattle.judge.specs.Judging.{wordsOf, failing, demandEach, passing, judgingMode01, judgingMode00, byMode, judging}
-
--- ---- a demand that is passed was met, and one that is met is passed
-
-demanded : (t : Bool) (n : ℕ) (rest : Say) {v : List ℕ} → demand t n rest ≡ done v → (t ≡ true) × (rest ≡ done v)
-demanded true n rest e = (refl, e)
-demanded false n rest e = never e
-
--- the same for a demand on each of n codewords
-all-pass : (fails : ℕ → Bool) (n : ℕ) → firstBelow fails n ≡ n → (k : ℕ) → k < n → fails k ≡ false
-all-pass fails n e k h = go (fails k) refl
-  where
-    go : (b : Bool) → fails k ≡ b → b ≡ false
-    go true p = absurd (first-below fails n .before k (omega arith) p)
-    go false p = refl
-
-none-fails : (fails : ℕ → Bool) (n : ℕ) → ((k : ℕ) → k < n → fails k ≡ false) → firstBelow fails n ≡ n
-none-fails fails n h = go (ltb (firstBelow fails n) n) refl
-  where
-    go : (b : Bool) → ltb (firstBelow fails n) n ≡ b → firstBelow fails n ≡ n
-    go true p =
-        let l : firstBelow fails n < n = ltb-true (firstBelow fails n) n p in
-        let q : fails (firstBelow fails n) ≡ true = first-below fails n .holds l in
-        let r : fails (firstBelow fails n) ≡ false = h (firstBelow fails n) l in
-        let z : _≡_ {A = ℕ} 0 1 = cc in absurd (omega arith)
-    go false p = omega (arith, ltb-false (firstBelow fails n) n p, first-below fails n .within)
-
-demanded-each : (parity : Parity) (s : List ℕ) (number : ℕ) (rest : Say) {v : List ℕ} → demandEach parity s number rest ≡ done v
-    → ((k : ℕ) → k < wordsOf parity → failing parity s k ≡ false) × (rest ≡ done v)
-demanded-each parity s number rest {v} e = go (ltb first n) refl e
-  where
-    n : ℕ
-    n = wordsOf parity
-
-    first : ℕ
-    first = firstBelow (failing parity s) n
-
-    go : (b : Bool) → ltb first n ≡ b → cond b (refused number (first ∷ [])) rest ≡ done v
-        → ((k : ℕ) → k < n → failing parity s k ≡ false) × (rest ≡ done v)
-    go true p q = never q
-    go false p q = (all-pass (failing parity s) n (omega (arith, ltb-false first n p, first-below (failing parity s) n .within)), q)
-
-met-each : (parity : Parity) (s : List ℕ) (number : ℕ) (rest : Say) → ((k : ℕ) → k < wordsOf parity → failing parity s k ≡ false)
-    → demandEach parity s number rest ≡ rest
-met-each parity s number rest h =
-    simp (le-ltb (firstBelow (failing parity s) (wordsOf parity)) (wordsOf parity) (omega (arith, none-fails (failing parity s) (wordsOf parity) h)))
-
--- ---- the codewords
-
-code-of : (w : List ℕ) → not (isCodeword 2 w) ≡ false → Codeword 2 w
-code-of w e = code-of-test 2 w (not-false (isCodeword 2 w) e)
-
-of-code : (w : List ℕ) → Codeword 2 w → not (isCodeword 2 w) ≡ false
-of-code w c = ap not (test-of-code 2 w c)
+use Rattle.judge.specs.Judging.{passing, judgingMode01, judgingMode00, byMode, judging}
+use Rattle.judge.specs.Judging.Demanded.{demanded, demanded-each, met-each, code-of, of-code}
 
 -- ---- Mode 01
 

@@ -5,7 +5,8 @@ use mathlib.Core.Path.{_≡_, sym, ap, _∙_}
 use native.Mathlib.Omega.{arith}
 use borrow.Author.Needs.{needs}
 use lib.ListN.{length, set, length-set}
-use Rattle.outcome.specs.Fill.{Filling, filling-none, filling-long, filling-more, filling-all, filling-rest}
+use Rattle.outcome.specs.Buffer.{Filling}
+use Rattle.outcome.specs.Buffer.Filled.{filling-none, filling-long, filling-more, filling-all, filling-rest}
 use Rattle.lines.specs.Delay.{lineNext}
 use Rattle.lines.specs.Lines.{length-next, next-at, next-last, next-none}
 use Rattle.lines.proofs.shift.Statement.{statement}

@@ -7,7 +7,7 @@ use Prim.Native.Nat.{ℕ, _+_, _-_, _<_, _≤_}
 use native.Mathlib.Omega.{arith}
 use lib.ListN.{length, getD, length-append, List·getD-append}
 use lib.Seq.{getD-append-add}
-use Rattle.outcome.specs.First.{lt-or-le}
+use Rattle.outcome.specs.First.Found.{lt-or-le}
 use Rattle.lists.specs.Laid.{Laid}
 
 pub laid-behind : {a e : ℕ} {p q s u t : List ℕ} → a + length p ≡ e → Laid a p s u → Laid e q u t → Laid a (p ++ q) s t

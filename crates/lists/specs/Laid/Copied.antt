@@ -9,8 +9,8 @@ use borrow.Rule.Slice.PartMut.{putMid}
 use lib.Dec.{eqb}
 use lib.ListN.{length, getD, take, drop, length-append, length-take, length-drop, List·getD-append}
 use lib.Seq.{getD-take, getD-drop, getD-append-add, length-take-le}
-use Rattle.outcome.specs.Lengths.{same-lengths}
-use Rattle.outcome.specs.Part.{part-back}
+use Rattle.outcome.specs.Buffer.Lengths.{same-lengths}
+use Rattle.outcome.specs.Buffer.Part.{part-back}
 use Rattle.lists.specs.Laid.{Laid}
 
 -- q between a list's first a places and those from e on

@@ -6,7 +6,7 @@ use mathlib.Core.List.{List, [], _∷_}
 use Prim.Native.Nat.{ℕ}
 use lib.Dec.{T, eqb, eqb→eq, eqb-refl}
 use lib.ListN.{length}
-use Rattle.outcome.specs.Table.{and-left, and-right, and-both, true-of, of-true}
+use Rattle.outcome.specs.Table.Entries.{and-left, and-right, and-both, true-of, of-true}
 use Rattle.lists.specs.Same.{same}
 
 equal-of : (a b : List ℕ) → T (same a b) → a ≡ b

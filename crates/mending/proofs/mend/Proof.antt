@@ -5,7 +5,7 @@ use mathlib.Core.List.{[], _∷_}
 use Prim.Native.Nat.{_<_}
 use native.Mathlib.Omega.{arith}
 use borrow.Author.Needs.{needs}
-use Rattle.codeword.specs.FaultLaws.{fault-inside}
+use Rattle.codeword.specs.Fault.Decides.{fault-inside}
 use Rattle.mending.specs.Inner.Mend.{explained, mendedAt}
 use Rattle.mending.proofs.mend.Statement.{statement}
 use Rattle.mending.proofs.mend.Tie as tie

@@ -11,7 +11,7 @@ use borrow.Author.Tests.{ltb-true, ltb-false}
 use lib.Dec.{T, ltb}
 use lib.ListN.{length, getD, length-append, List·getD-append}
 use lib.Seq.{getD-append-seam}
-use Rattle.outcome.specs.Table.{of-true}
+use Rattle.outcome.specs.Table.Entries.{of-true}
 use Rattle.merging.specs.Chosen.{Chosen, better, beforeWord, beforeHeader, forWord, forHeader, m100, m010, m001, m000}
 
 -- ---- two that are chosen coincide

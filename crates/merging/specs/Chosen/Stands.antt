@@ -7,7 +7,7 @@ use Prim.Native.Nat.{ℕ, _<_}
 use native.Mathlib.Omega.{arith}
 use lib.Dec.{T}
 use lib.ListN.{length}
-use Rattle.outcome.specs.Table.{and-left, and-right}
+use Rattle.outcome.specs.Table.Entries.{and-left, and-right}
 use Rattle.merging.specs.Agree.{passes, Takes, word-keeps, header-keeps, one-agrees, word-agrees, word-passes, head-agrees, header-agrees, header-passes}
 use Rattle.merging.specs.Automaton.{start22}
 use Rattle.merging.specs.Chosen.{Chosen, beforeWord, beforeHeader, forWord, forHeader, m100, m000}

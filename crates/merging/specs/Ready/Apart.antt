@@ -8,7 +8,8 @@ use native.Mathlib.Omega.{arith}
 use borrow.Author.Tests.{eqb-true}
 use lib.Dec.{T, eqb}
 use lib.ListN.{length, getD}
-use Rattle.outcome.specs.Table.{allBelow, below}
+use Rattle.outcome.specs.Table.{allBelow}
+use Rattle.outcome.specs.Table.Entries.{below}
 use Rattle.bits.specs.Bits.{bitsOf}
 use Rattle.bits.specs.Numbers.{length-bits}
 use Rattle.words.specs.Every.{every, each}

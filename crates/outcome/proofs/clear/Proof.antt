@@ -5,7 +5,8 @@ use mathlib.Core.Path.{_≡_, refl, sym, ap, _∙_}
 use native.Mathlib.Omega.{arith}
 use borrow.Author.Needs.{needs}
 use lib.ListN.{length, replicate, length-replicate, getD-replicate}
-use Rattle.outcome.specs.Fill.{Filling, filling-none, filling-long, filling-more, filling-all}
+use Rattle.outcome.specs.Buffer.{Filling}
+use Rattle.outcome.specs.Buffer.Filled.{filling-none, filling-long, filling-more, filling-all}
 use Rattle.outcome.proofs.clear.Statement.{statement}
 use Rattle.outcome.proofs.clear.Tie as tie
 

@@ -6,7 +6,8 @@ use native.Mathlib.Omega.{arith}
 use borrow.Author.Needs.{needs}
 use borrow.Author.Tests.{eq-eqb, ne-eqb}
 use lib.ListN.{length}
-use Rattle.outcome.specs.Fill.{Filling, filling-none, filling-long, filling-more, filling-all}
+use Rattle.outcome.specs.Buffer.{Filling}
+use Rattle.outcome.specs.Buffer.Filled.{filling-none, filling-long, filling-more, filling-all}
 use Rattle.outcome.proofs.copy.Statement.{statement}
 use Rattle.outcome.proofs.copy.Tie as tie
 

@@ -4,7 +4,7 @@ use Prim.Native.Nat.{ℕ}
 use mathlib.Core.Path.{_≡_, sym, ap, _∙_}
 use borrow.Author.Needs.{needs}
 use lib.ListN.{replicate}
-use Rattle.outcome.specs.Say.{cleared-right, cleared-wrong}
+use Rattle.outcome.specs.Say.Refusals.{cleared-right, cleared-wrong}
 use Rattle.outcome.proofs.wipe.Statement.{statement}
 use Rattle.outcome.proofs.wipe.Tie as tie
 

@@ -4,7 +4,8 @@ use mathlib.Core.Path.{sym, _∙_}
 use Prim.Native.Nat.{_-_, _+_, _*_}
 use native.Mathlib.Omega.{arith}
 use lib.ListN.{drop, length-take, length-drop}
-use Rattle.outcome.specs.Fill.{Filling, filling-none, filling-long, filling-all}
+use Rattle.outcome.specs.Buffer.{Filling}
+use Rattle.outcome.specs.Buffer.Filled.{filling-none, filling-long, filling-all}
 use Rattle.parities.specs.Inner.Gather.{qRows}
 use Rattle.parities.proofs.Gathering.{length-rows, rows-more}
 use Rattle.parities.proofs.gather.Statement.{statement}

@@ -5,14 +5,14 @@ use mathlib.Core.List.{List}
 use Prim.Native.Nat.{ℕ, _+_, _*_, _/_, _%_}
 use lib.ListN.{getD}
 use Rattle.outcome.specs.Table.{tabulated}
-use Rattle.rspc.specs.Words.{place}
+use Rattle.rspc.specs.Words.{place, qWords}
 
 -- the byte in row m and column k
 abbrev pub qByte : List ℕ → ℕ → ℕ → ℕ
 qByte s m k = getD s (place (k % 2) ((44 * m + 43 * (k / 2)) % 1118)) 0
 
 unfoldable pub qRow : List ℕ → ℕ → List ℕ
-qRow s m = tabulated (qByte s m) 0 52
+qRow s m = tabulated (qByte s m) 0 qWords
 
 unfoldable pub qRows : List ℕ → List ℕ
-qRows s = tabulated (λ i. qByte s (i / 52) (i % 52)) 0 2236
+qRows s = tabulated (λ i. qByte s (i / qWords) (i % qWords)) 0 2236

@@ -6,9 +6,9 @@ use mathlib.Core.Logic.{inl, inr, ⊎-elim}
 use native.Mathlib.Omega.{arith}
 use borrow.Author.Needs.{needs}
 use lib.ListN.{length, take, getD}
-use Rattle.outcome.specs.First.{lt-or-le}
+use Rattle.outcome.specs.First.Found.{lt-or-le}
 use Rattle.codeword.specs.Code.{changes}
-use Rattle.codeword.specs.Changes.{unlike-le}
+use Rattle.codeword.specs.Code.Changes.{unlike-le}
 use Rattle.repair.proofs.Counting.{changes-none-yet, changes-more, changes-all}
 use Rattle.repair.proofs.count_changes.Statement.{statement}
 use Rattle.repair.proofs.count_changes.Tie as tie

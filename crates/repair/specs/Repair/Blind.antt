@@ -4,7 +4,8 @@ use mathlib.Core.Path.{_≡_, sym, _∙_, subst}
 use mathlib.Core.List.{List, []}
 use Prim.Native.Nat.{ℕ}
 use lib.ListN.{length}
-use Rattle.outcome.specs.Say.{Say, refused, cleared, cleared-right}
+use Rattle.outcome.specs.Say.{Say, refused, cleared}
+use Rattle.outcome.specs.Say.Refusals.{cleared-right}
 use Rattle.repair.specs.Repair.{Repairs, wrong-incoming, wrong-outgoing, none-near, handed-out}
 use Rattle.repair.specs.Repair.One.{repair-one}
 

@@ -5,9 +5,10 @@ use mathlib.Core.List.{List, [], _∷_}
 use Prim.Native.Nat.{ℕ}
 use native.Mathlib.Omega.{arith}
 use lib.ListN.{length}
-use Rattle.outcome.specs.Say.{Say, done, never}
+use Rattle.outcome.specs.Say.{Say, done}
+use Rattle.outcome.specs.Say.Refusals.{never}
 use Rattle.codeword.specs.Code.{changes}
-use Rattle.codeword.specs.Changes.{changes-self, changes-none}
+use Rattle.codeword.specs.Code.Changes.{changes-self, changes-none}
 use Rattle.rspc.specs.Words.{pWord}
 use Rattle.sector.specs.Correct.{CorrectMode01}
 use Rattle.repair.specs.Repair.{Sought, Repairs, wrong-incoming, wrong-outgoing, none-near, handed-out}

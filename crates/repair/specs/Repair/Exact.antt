@@ -4,7 +4,8 @@ use mathlib.Core.Path.{_≡_, sym, _∙_}
 use mathlib.Core.List.{List, [], _∷_}
 use Prim.Native.Nat.{ℕ}
 use lib.ListN.{length, replicate}
-use Rattle.outcome.specs.Say.{Say, done, refused, cleared-right, never}
+use Rattle.outcome.specs.Say.{Say, done, refused}
+use Rattle.outcome.specs.Say.Refusals.{cleared-right, never}
 use Rattle.codeword.specs.Code.{changes}
 use Rattle.repair.specs.Repair.{Sought, Repairs, wrong-incoming, wrong-outgoing, none-near, handed-out}
 use Rattle.repair.specs.Repair.One.{repair-one}

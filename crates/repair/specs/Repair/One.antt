@@ -6,7 +6,7 @@ use Prim.Native.Nat.{ℕ, _<_}
 use native.Mathlib.Omega.{arith}
 use Rattle.outcome.specs.Say.{Say, done}
 use Rattle.codeword.specs.Code.{changes, Near}
-use Rattle.codeword.specs.NearLaws.{near-unique}
+use Rattle.codeword.specs.Code.NearOne.{near-one}
 use Rattle.rspc.specs.Words.{pWords, pWord}
 use Rattle.rspc.specs.Words.P.{length-p, bytes-p, p-covers}
 use Rattle.sector.specs.Correct.Whole.{covered-one}
@@ -27,7 +27,7 @@ pub sought-one : (r s t : List ℕ) → Sought r s → Sought r t → s ≡ t
 sought-one r s t g h =
     covered-one s t (g .correct) (h .correct)
     (p-covers s t
-    (λ n l. near-unique 2 (pWord r n) (pWord s n) (pWord t n) (omega arith) (omega (arith, length-p r n)) (sought-near r s g n l) (sought-near r t h n l)))
+    (λ n l. near-one 2 (pWord r n) (pWord s n) (pWord t n) (omega arith) (omega (arith, length-p r n)) (sought-near r s g n l) (sought-near r t h n l)))
 
 -- two outcomes that the promise allows coincide, the buffer included
 pub repair-one : (r old : List ℕ) {a b : Say} {s t : List ℕ} → Repairs r old a s → Repairs r old b t → (a ≡ b) × (s ≡ t)

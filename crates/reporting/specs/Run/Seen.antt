@@ -7,8 +7,10 @@ use native.Mathlib.Omega.{arith}
 use lib.ListN.{length, length-append}
 use Rattle.text.specs.declared.Counts.{Counts}
 use Rattle.text.specs.declared.Fate.{Fate}
-use Rattle.text.specs.Counting.{largest, noneCounted, countedWith, Room, counted-right}
-use Rattle.text.specs.Report.{isClean, isRepaired, isRefused, howMany, counts-add-up}
+use Rattle.text.specs.Counting.{largest, noneCounted, countedWith}
+use Rattle.text.specs.Counting.Room.{Room, counted-right}
+use Rattle.text.specs.Report.{isClean, isRepaired, isRefused, howMany}
+use Rattle.text.specs.Report.Counts.{counts-add-up}
 use Rattle.fate.specs.Fated.{Fated}
 
 -- whole Sectors, in the order in which they came, and the fate of each

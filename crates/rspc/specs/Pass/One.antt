@@ -7,7 +7,7 @@ use mathlib.Core.List.{List}
 use Prim.Native.Nat.{ℕ, _<_, _≤_}
 use lib.ListN.{getD}
 use lib.Seq.{ext-getD}
-use Rattle.outcome.specs.First.{lt-or-le}
+use Rattle.outcome.specs.First.Found.{lt-or-le}
 use Rattle.lists.specs.Agree.{same-front, same-back}
 use Rattle.rspc.specs.Words.{SameCovered}
 use Rattle.rspc.specs.Words.P.{p-covers}

@@ -9,7 +9,7 @@ use native.Mathlib.Omega.{arith}
 use lib.ListN.{length, getD}
 use lib.Seq.{ext-getD}
 use Rattle.outcome.specs.Bytes.{Bytes}
-use Rattle.outcome.specs.First.{lt-or-le}
+use Rattle.outcome.specs.First.Found.{lt-or-le}
 use Rattle.lists.specs.Agree.{same-front, same-back}
 use Rattle.rspc.specs.Words.Parity.{p-one, q-one}
 use Rattle.rspc.specs.Put.{PPut, QPut, PutP, PutQ}

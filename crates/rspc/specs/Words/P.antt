@@ -6,7 +6,7 @@ use Prim.Native.Nat.{ℕ, _+_, _-_, _*_, _/_, _%_, _<_}
 use native.Mathlib.Omega.{arith}
 use lib.ListN.{length, getD}
 use Rattle.outcome.specs.Bytes.{Bytes}
-use Rattle.outcome.specs.Table.{tabulated-at, tabulated-same, length-tabulated, bytes-tabulated}
+use Rattle.outcome.specs.Table.Entries.{tabulated-at, tabulated-same, length-tabulated, bytes-tabulated}
 use Rattle.rspc.specs.Words.{pWords, pPlace, pWord, SameCovered}
 
 -- a P word has 26 bytes

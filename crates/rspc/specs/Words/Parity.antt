@@ -8,8 +8,8 @@ use native.Mathlib.Omega.{arith}
 use lib.ListN.{length, getD}
 use Rattle.outcome.specs.Bytes.{Bytes}
 use Rattle.codeword.specs.Code.{Codeword, changes}
-use Rattle.codeword.specs.Changes.{unlike-same, unlike-le}
-use Rattle.codeword.specs.Distance.{codewords-differ}
+use Rattle.codeword.specs.Code.Changes.{unlike-same, unlike-le}
+use Rattle.codeword.specs.Code.Distance.{codewords-differ}
 use Rattle.rspc.specs.Words.{pPlace, pWord, qWord, PCodewords, QCodewords, SameCovered, SameQParity}
 use Rattle.rspc.specs.Words.P.{length-p, p-at, bytes-p, p-covers}
 use Rattle.rspc.specs.Words.Q.{length-q, bytes-q, q-front, q-covers}

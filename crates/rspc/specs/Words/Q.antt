@@ -9,8 +9,8 @@ use borrow.Author.Tests.{lt-ltb, le-ltb}
 use lib.ListN.{length, getD}
 use lib.Seq.{ext-getD}
 use Rattle.outcome.specs.Bytes.{Bytes}
-use Rattle.outcome.specs.Table.{tabulated-at, length-tabulated, bytes-tabulated}
-use Rattle.outcome.specs.First.{lt-or-le}
+use Rattle.outcome.specs.Table.Entries.{tabulated-at, length-tabulated, bytes-tabulated}
+use Rattle.outcome.specs.First.Found.{lt-or-le}
 use Rattle.rspc.specs.Words.{qNumber, qWords, qPlace, qWord, SameCovered, SameQParity}
 
 -- a Q word has 45 bytes

@@ -7,7 +7,8 @@ use Prim.Native.Nat.{ℕ}
 use borrow.Author.Tests.{eq-eqb, ne-eqb, eqb-true, eqb-false}
 use lib.Dec.{eqb}
 use lib.ListN.{length, replicate}
-use Rattle.outcome.specs.Say.{done, refused, cleared, cleared-right, Outcome, outcome, answered}
+use Rattle.outcome.specs.Say.{done, refused, cleared, Outcome, outcome, answered}
+use Rattle.outcome.specs.Say.Refusals.{cleared-right}
 use Rattle.scrambling.specs.declared.Answer.{Answer}
 use Rattle.scrambling.specs.declared.Answer.the-variants.{Done, WrongIncoming, WrongOutgoing}
 use Rattle.scrambling.specs.Entry.{sayOf, says, answering}

@@ -5,7 +5,8 @@ use mathlib.Core.List.{List, [], _∷_, _++_}
 use Prim.Native.Nat.{ℕ, zero, suc, _+_, _-_, _*_, _/_, _<_}
 use native.Mathlib.Omega.{arith}
 use lib.ListN.{length, getD}
-use Rattle.outcome.specs.Bytes.{Bytes, bytes-cons}
+use Rattle.outcome.specs.Bytes.{Bytes}
+use Rattle.outcome.specs.Bytes.Kept.{bytes-cons}
 use Rattle.scrambling.specs.Exchange.{exchanged, other}
 
 pub length-exchanged : (w : List ℕ) → length (exchanged w) ≡ length w

@@ -8,7 +8,7 @@ use lib.ListN.{length, getD, take, drop, take-append-drop, length-drop}
 use lib.Seq.{length-take-le, take-at, drop-append-add, drop-drop, getD-take, getD-drop, ext-getD}
 use Rattle.outcome.specs.Bytes.{Bytes}
 use Rattle.outcome.specs.Say.{done, outcome}
-use Rattle.outcome.specs.Table.{length-tabulated, tabulated-at}
+use Rattle.outcome.specs.Table.Entries.{length-tabulated, tabulated-at}
 use Rattle.scrambling.specs.Entry.Ways.{taken-back}
 use Rattle.scrambling.specs.Exchange.{exchanged, other}
 use Rattle.scrambling.specs.Exchange.Pairs.{length-exchanged, exchanged-twice, exchanged-at, exchanged-append, bytes-exchanged}

@@ -8,9 +8,11 @@ use native.Mathlib.Omega.{arith}
 use lib.Bits.{bitXor}
 use lib.ListN.{length, getD, take, drop, take-append-drop, length-append, length-drop}
 use lib.Seq.{length-take-le, take-at, drop-at, getD-drop}
-use Rattle.outcome.specs.Bytes.{Bytes, bytes-append, bytes-take, bytes-drop}
+use Rattle.outcome.specs.Bytes.{Bytes}
+use Rattle.outcome.specs.Bytes.Kept.{bytes-append, bytes-take, bytes-drop}
 use Rattle.outcome.specs.Say.{done, outcome}
-use Rattle.xor.specs.Lists.{added, length-added, added-at, added-twice, bytes-added}
+use Rattle.xor.specs.Added.{added}
+use Rattle.xor.specs.Added.Places.{length-added, added-at, added-twice, bytes-added}
 use Rattle.scrambling.specs.Entry.Ways.{taken-back}
 use Rattle.scrambling.specs.Sequence.Follows.{length-sequence, sequence-at, bytes-sequence}
 use Rattle.scrambling.specs.Sequence.{byteAt, sequence}

@@ -9,8 +9,9 @@ use native.Mathlib.Omega.{arith}
 use lib.ListN.{length, getD, drop, take, getD-replicate, length-append, length-drop, List·getD-append, List·getD-eq-default}
 use lib.Seq.{getD-drop, getD-at}
 use Rattle.outcome.specs.Bytes.{Bytes}
-use Rattle.outcome.specs.Table.{tabulated, length-tabulated, tabulated-at}
-use Rattle.outcome.specs.First.{lt-or-le}
+use Rattle.outcome.specs.Table.{tabulated}
+use Rattle.outcome.specs.Table.Entries.{length-tabulated, tabulated-at}
+use Rattle.outcome.specs.First.Found.{lt-or-le}
 use Rattle.scrambling.specs.Sequence.{Rule, next, register, bit, byteOf, byteAt, sequence}
 
 -- ---- the register

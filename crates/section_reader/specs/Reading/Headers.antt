@@ -7,7 +7,8 @@ use mathlib.Core.List.{List}
 use mathlib.Core.Option.{Option, none, some}
 use Prim.Native.Nat.{ℕ, zero, suc, _+_, _≤_, _<_}
 use native.Mathlib.Omega.{arith}
-use Rattle.outcome.specs.First.{First, first-one, lt-or-le}
+use Rattle.outcome.specs.First.{First}
+use Rattle.outcome.specs.First.Found.{first-one, lt-or-le}
 use Rattle.section_reader.specs.Reading.{headless, headlessFrom, firstHeadless}
 
 -- what the search from frame f on finds: no frame, or the first

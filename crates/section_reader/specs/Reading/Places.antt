@@ -6,7 +6,8 @@ use Prim.Native.Nat.{ℕ, _+_, _*_, _/_, _%_, _<_}
 use native.Mathlib.Omega.{arith}
 use lib.ListN.{length, take, drop, length-take, length-drop}
 use lib.Seq.{ext-getD, getD-take, getD-drop}
-use Rattle.outcome.specs.Table.{tabulated, tabulated-at, length-tabulated}
+use Rattle.outcome.specs.Table.{tabulated}
+use Rattle.outcome.specs.Table.Entries.{tabulated-at, length-tabulated}
 use Rattle.section_reader.specs.Reading.{frameByte, frameMark, byteRead, markRead, bytesRead, marksRead}
 
 -- 98 rows of 33, one after the other: row f is the part from place 33 * f on

@@ -7,7 +7,7 @@ use native.Mathlib.Omega.{arith}
 use borrow.Author.Tests.{lt-ltb}
 use lib.Dec.{leb, leb→le}
 use lib.IntN.{ℤ, pos, negsuc, natAbs, subℕ}
-use Rattle.outcome.specs.Table.{and-left, and-right, of-true}
+use Rattle.outcome.specs.Table.Entries.{and-left, and-right, of-true}
 use Rattle.choosing.specs.Traces.{Within}
 use Rattle.section_state.specs.Carried.{mostSections, sectionBits, levelRight, possible, above, below, levelNow, beginning, dsvThen}
 

@@ -9,7 +9,8 @@ use native.Mathlib.Omega.{arith}
 use borrow.Author.Tests.{ltb-true}
 use lib.Dec.{eqb, ltb}
 use lib.ListN.{length}
-use Rattle.outcome.specs.Say.{Say, done, refused, demand, never}
+use Rattle.outcome.specs.Say.{Say, done, refused, demand}
+use Rattle.outcome.specs.Say.Refusals.{never}
 use Rattle.calls.specs.Step.{Step, isDone}
 use Rattle.calls.specs.Calls.{run}
 use Rattle.section_writer.specs.declared.SectionWriter.{SectionWriter}

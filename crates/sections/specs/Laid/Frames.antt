@@ -10,7 +10,8 @@ use native.Mathlib.Omega.{arith}
 use borrow.Author.Tests.{eq-eqb}
 use lib.ListN.{length}
 use Rattle.outcome.specs.Bytes.{Bytes}
-use Rattle.outcome.specs.Table.{tabulated, tabulated-at}
+use Rattle.outcome.specs.Table.{tabulated}
+use Rattle.outcome.specs.Table.Entries.{tabulated-at}
 use Rattle.words.specs.Facts.{word-14}
 use Rattle.merging.specs.Chosen.{Written, withHeader, withTail}
 use Rattle.section_writer.specs.declared.SectionWriter.{SectionWriter}

@@ -9,7 +9,7 @@ use native.Mathlib.Omega.{arith}
 use borrow.Author.Tests.{eq-eqb, lt-ltb}
 use lib.ListN.{length}
 use Rattle.outcome.specs.Bytes.{Bytes}
-use Rattle.outcome.specs.Table.{tabulated-same}
+use Rattle.outcome.specs.Table.Entries.{tabulated-same}
 use Rattle.bits.specs.Bits.{unpack, pack}
 use Rattle.bits.specs.Packed.{unpack-pack, length-pack}
 use Rattle.words.specs.declared.Symbol.{Symbol}

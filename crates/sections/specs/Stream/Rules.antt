@@ -10,7 +10,7 @@ use native.Mathlib.Omega.{arith}
 use borrow.Author.Tests.{ne-eqb}
 use lib.Dec.{T, eqb}
 use lib.ListN.{length, drop}
-use Rattle.outcome.specs.Table.{and-left, and-right, of-true, true-of}
+use Rattle.outcome.specs.Table.Entries.{and-left, and-right, of-true, true-of}
 use Rattle.words.specs.Runs.{runs}
 use Rattle.merging.specs.Places.{placed, placed-first}
 use Rattle.merging.specs.Rule.{header, starts}

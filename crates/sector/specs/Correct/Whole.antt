@@ -7,7 +7,7 @@ use Prim.Native.Nat.{ℕ, _<_, _≤_}
 use native.Mathlib.Omega.{arith}
 use lib.ListN.{length, getD, take}
 use lib.Seq.{ext-getD, getD-take}
-use Rattle.outcome.specs.First.{lt-or-le}
+use Rattle.outcome.specs.First.Found.{lt-or-le}
 use Rattle.rspc.specs.Words.{SameCovered, SameQParity}
 use Rattle.rspc.specs.Words.Parity.{q-one}
 use Rattle.sector.specs.Correct.{CorrectMode01}

@@ -7,7 +7,8 @@ use native.Mathlib.Omega.{arith}
 use borrow.Author.Needs.{needs}
 use lib.Bits.{bitXor}
 use lib.ListN.{length, getD}
-use Rattle.outcome.specs.Fill.{Filling, filling-none, filling-long, filling-more, filling-all, filling-rest}
+use Rattle.outcome.specs.Buffer.{Filling}
+use Rattle.outcome.specs.Buffer.Filled.{filling-none, filling-long, filling-more, filling-all, filling-rest}
 use Rattle.field.specs.Field.{timesAlpha}
 use Rattle.sweep.specs.Inner.Rise.{risen}
 use Rattle.sweep.proofs.Rows.{length-risen, risen-at}

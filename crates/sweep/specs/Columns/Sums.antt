@@ -5,7 +5,7 @@ use mathlib.Core.List.{List}
 use Prim.Native.Nat.{ℕ, _+_, _*_, _<_}
 use lib.ListN.{length, getD}
 use Rattle.outcome.specs.Bytes.{Bytes}
-use Rattle.outcome.specs.Table.{tabulated-at, length-tabulated, bytes-tabulated}
+use Rattle.outcome.specs.Table.Entries.{tabulated-at, length-tabulated, bytes-tabulated}
 use Rattle.codeword.specs.Code.{sum}
 use Rattle.sweep.specs.Columns.{column, columnSums}
 

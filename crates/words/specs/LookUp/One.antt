@@ -10,7 +10,8 @@ use borrow.Author.Tests.{eq-eqb, eqb-true}
 use lib.Dec.{eqb}
 use lib.ListN.{getD}
 use lib.Seq.{ext-getD}
-use Rattle.outcome.specs.First.{lt-or-le, firstBelow, first-below}
+use Rattle.outcome.specs.First.{firstBelow}
+use Rattle.outcome.specs.First.Found.{lt-or-le, first-below}
 use Rattle.words.specs.Words.{wordOf}
 use Rattle.words.specs.LookUp.{Free, Guide}
 

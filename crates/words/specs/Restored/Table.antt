@@ -5,7 +5,8 @@ use mathlib.Core.Bool.{Bool}
 use Prim.Native.Nat.{ℕ, _+_, _-_, _≤_}
 use native.Mathlib.Omega.{arith}
 use lib.Dec.{T, eqb, eqb→eq}
-use Rattle.outcome.specs.Table.{allBelow, below}
+use Rattle.outcome.specs.Table.{allBelow}
+use Rattle.outcome.specs.Table.Entries.{below}
 use Rattle.words.specs.Words.{words, wordOf}
 use Rattle.words.specs.Restored.{restored}
 

@@ -8,12 +8,14 @@ use Prim.Native.Nat.{ℕ, zero, suc, _+_, _-_, _<_, _≤_}
 use native.Mathlib.Omega.{arith}
 use lib.ListN.{length, getD, take, drop, length-drop}
 use lib.Seq.{ext-getD, take-add, take-all, length-take-le}
-use Rattle.outcome.specs.Say.{Say, never}
-use Rattle.outcome.specs.Bytes.{Bytes, bytes-take, bytes-drop}
-use Rattle.outcome.specs.First.{lt-or-le}
+use Rattle.outcome.specs.Say.{Say}
+use Rattle.outcome.specs.Say.Refusals.{never}
+use Rattle.outcome.specs.Bytes.{Bytes}
+use Rattle.outcome.specs.Bytes.Kept.{bytes-take, bytes-drop}
+use Rattle.outcome.specs.First.Found.{lt-or-le}
 use Rattle.lists.specs.Agree.{same-front, same-back, same-take, same-between}
 use Rattle.edc.specs.Edc.{Divisible, edc}
-use Rattle.edc.specs.Laws.{edc-only}
+use Rattle.edc.specs.Edc.Right.{edc-one}
 use Rattle.rspc.specs.Words.Parity.{p-one}
 use Rattle.sector.specs.Layout.{bytesFrom, timeOf, modeOf, userLength, userData}
 use Rattle.sector.specs.Correct.{Head, Protected, CorrectMode01}
@@ -111,7 +113,7 @@ module _ {mode : ℕ} {time : HeaderTime} {user s t : List ℕ} (a : Asked mode 
 
       edc-of : (u : List ℕ) → length u ≡ 2352 → Bytes u → Divisible (take 2068 u) → bytesFrom 2064 4 u ≡ edc (take 2064 u)
       edc-of u l h d =
-          edc-only (take 2064 u) (bytesFrom 2064 4 u) (length-take-le 4 (drop 2064 u) (omega (arith, length-drop 2064 u)))
+          edc-one (take 2064 u) (bytesFrom 2064 4 u) (length-take-le 4 (drop 2064 u) (omega (arith, length-drop 2064 u)))
           (bytes-take 4 (drop 2064 u) (bytes-drop 2064 u h)) (subst (λ (w : List ℕ). Divisible w) (take-add 2064 4 u) d)
 
       same-edc : bytesFrom 2064 4 s ≡ bytesFrom 2064 4 t

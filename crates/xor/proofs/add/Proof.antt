@@ -8,8 +8,10 @@ use borrow.Author.Needs.{needs}
 use borrow.Author.Tests.{eq-eqb, ne-eqb}
 use lib.Bits.{bitXor}
 use lib.ListN.{length, getD}
-use Rattle.outcome.specs.Fill.{Filling, filling-none, filling-long, filling-more, filling-all, filling-rest}
-use Rattle.xor.specs.Lists.{added, length-added, added-at}
+use Rattle.outcome.specs.Buffer.{Filling}
+use Rattle.outcome.specs.Buffer.Filled.{filling-none, filling-long, filling-more, filling-all, filling-rest}
+use Rattle.xor.specs.Added.{added}
+use Rattle.xor.specs.Added.Places.{length-added, added-at}
 use Rattle.xor.proofs.add.Statement.{statement}
 use Rattle.xor.proofs.add.Tie as tie
 

@@ -1,6 +1,6 @@
 -- `address::HeaderTime::in_range` meets its contract: each way out has the answers for the bytes before it.
 -- Assumes nothing.
-use mathlib.Core.Path.{_≡_, refl, sym, _∙_}
+use mathlib.Core.Path.{sym, _∙_}
 use borrow.Author.Needs.{needs}
 use borrow.Author.Tests.{not-true, not-false}
 use Rattle.address.specs.Address.{inRange}

@@ -7,7 +7,7 @@ use mathlib.Core.List.{List, [], _∷_}
 use native.Mathlib.Omega.{arith}
 use lib.ListN.{length}
 use Rattle.outcome.specs.Say as Say
-use Rattle.outcome.specs.Lengths.{same-lengths}
+use Rattle.outcome.specs.Buffer.Lengths.{same-lengths}
 use Rattle.lines.specs.Delay.{total}
 use Rattle.lines.specs.Parts.{chain-step}
 use Rattle.circ.specs.Rows.{collected, doubt, readerBeforeC1, readerBetween, readerAfterC2, inverted}

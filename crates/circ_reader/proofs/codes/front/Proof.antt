@@ -4,7 +4,7 @@ use mathlib.Core.Path.{sym}
 use native.Mathlib.Omega.{arith}
 use lib.ListN.{length, take}
 use lib.Seq.{length-take-le}
-use Rattle.outcome.specs.Lengths.{same-lengths}
+use Rattle.outcome.specs.Buffer.Lengths.{same-lengths}
 use borrow.Author.Needs.{needs}
 use Rattle.circ_reader.proofs.codes.front.Statement.{statement}
 use Rattle.circ_reader.proofs.codes.front.Tie as tie

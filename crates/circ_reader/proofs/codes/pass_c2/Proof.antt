@@ -4,7 +4,7 @@ use Prim.Native.Nat.{ℕ}
 use mathlib.Core.Path.{ap₂, _∙_}
 use mathlib.Core.List.{List, [], _∷_, _++_}
 use lib.ListN.{length}
-use Rattle.outcome.specs.Lengths.{same-lengths}
+use Rattle.outcome.specs.Buffer.Lengths.{same-lengths}
 use Rattle.circ.specs.Chains.{throughC2}
 use borrow.Author.Needs.{needs}
 use Rattle.circ_reader.proofs.codes.pass_c2.Statement.{statement}

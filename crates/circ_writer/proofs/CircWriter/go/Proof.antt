@@ -3,7 +3,7 @@
 use mathlib.Core.Path.{_≡_, refl, ap, _∙_}
 use native.Mathlib.Omega.{arith}
 use lib.ListN.{length}
-use Rattle.outcome.specs.Lengths.{same-lengths}
+use Rattle.outcome.specs.Buffer.Lengths.{same-lengths}
 use Rattle.lines.specs.Delay.{total}
 use Rattle.lines.specs.Parts.{chain-step}
 use Rattle.circ.specs.Rows.{placed, beforeC2, between, afterC1, inverted}

@@ -7,7 +7,7 @@ use Prim.Native.Nat.{ℕ}
 use native.Mathlib.Omega.{arith}
 use lib.Bits.{bitXor}
 use Rattle.field.specs.Field.{timesAlpha, power}
-use Rattle.field.specs.Laws.{mul-lt}
+use Rattle.field.specs.Field.Product.{mul-lt}
 use Rattle.codeword.specs.Parity.{WithSums}
 use Rattle.codeword.proofs.Solved.{two-solved}
 use Rattle.codeword.proofs.parity.parity_from_sums.Statement.{statement}

@@ -8,7 +8,7 @@ use lib.ListN.{getD}
 use Rattle.field.specs.Field.{power, mul}
 use Rattle.codeword.specs.Pair.{pair}
 use Rattle.codeword.specs.Parity.{WithSums}
-use Rattle.codeword.specs.ParityLaws.{parity-from-sums}
+use Rattle.codeword.specs.Parity.One.{parity-from-sums}
 use Rattle.codeword.proofs.parity.parity_of_two.Statement.{statement}
 use Rattle.codeword.proofs.parity.parity_of_two.Tie as tie
 

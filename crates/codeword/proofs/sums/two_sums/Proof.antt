@@ -8,7 +8,7 @@ use lib.ListN.{length, take}
 use Rattle.outcome.specs.Bytes.{Bytes}
 use Rattle.field.specs.Field.{timesAlpha, power}
 use Rattle.codeword.specs.Code.{sum}
-use Rattle.codeword.specs.Sums.{sum-none, sum-step, sum-all, times-0}
+use Rattle.codeword.specs.Code.Sums.{sum-none, sum-step, sum-all, times-0}
 use Rattle.codeword.proofs.sums.two_sums.Statement.{statement}
 use Rattle.codeword.proofs.sums.two_sums.Tie as tie
 

@@ -4,7 +4,7 @@
 use borrow.Author.Needs.{needs}
 use mathlib.Core.Path.{sym, _∙_}
 use native.Mathlib.Omega.{arith}
-use Rattle.codeword.specs.FaultLaws.{fault-inside}
+use Rattle.codeword.specs.Fault.Decides.{fault-inside}
 use Rattle.codeword.proofs.Faults.{verdict-found}
 use Rattle.codeword.proofs.verdicts.verdict_of_four.Statement.{statement}
 use Rattle.codeword.proofs.verdicts.verdict_of_four.Tie as tie

@@ -3,8 +3,8 @@
 use mathlib.Core.Path.{_≡_, ap₂}
 use mathlib.Core.List.{List, _++_}
 use Prim.Native.Nat.{ℕ}
-use Rattle.edc.specs.Register.{step, steps, steps-add}
-use Rattle.edc.specs.Rows.{block, rows}
+use Rattle.edc.specs.Inner.Register.{step, steps, steps-add}
+use Rattle.edc.specs.Inner.Rows.{block, rows}
 use Rattle.edc.proofs.Spread.{spread, spread-is}
 use Rattle.edc.proofs.table.table.Statement.{statement}
 use Rattle.edc.proofs.table.table.Tie as tie

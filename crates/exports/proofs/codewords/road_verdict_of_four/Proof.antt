@@ -2,7 +2,7 @@
 -- Assumes nothing.
 use borrow.Author.Needs.{needs}
 use mathlib.Core.Path.{ap}
-use Rattle.exports.specs.Told.{sayVerdict}
+use Rattle.exports.specs.Verdicts.{sayVerdict}
 use Rattle.exports.proofs.codewords.road_verdict_of_four.Statement.{statement}
 use Rattle.exports.proofs.codewords.road_verdict_of_four.Tie as tie
 

@@ -4,7 +4,8 @@ use Prim.Native.Nat.{_*_, _-_}
 use mathlib.Core.Path.{sym, _∙_}
 use native.Mathlib.Omega.{arith}
 use borrow.Author.Needs.{needs}
-use Rattle.outcome.specs.Fill.{Filling, filling-none, filling-all}
+use Rattle.outcome.specs.Buffer.{Filling}
+use Rattle.outcome.specs.Buffer.Filled.{filling-none, filling-all}
 use Rattle.scrambling.specs.Exchange.{exchanged}
 use Rattle.scrambling.specs.Exchange.Pairs.{length-exchanged}
 use Rattle.scrambling.proofs.Exchanging.{pair-more}

@@ -2,6 +2,7 @@
 -- Assumes nothing.
 use mathlib.Core.Path.{_≡_}
 use mathlib.Core.Bool.{true, false}
+use borrow.Author.Tests.{ltb-true}
 use mir.Syntax.{w64}
 use mir.Val.{SFits}
 use Rattle.section_writer.specs.State.{right}
@@ -67,7 +68,7 @@ write-frames-requires c κs =
     (l .if3 .left, l .before .before .if1 .left, l .before .if2 .left, begins-within s _ r (begins-as s k f _ (c .before .begin .ensures)))
 
 advance-requires : tie.Need-advance-requires
-advance-requires c κs = (c .before .before .write-frames .ensures .within, c .before .before .before .before .before .if5 .taken)
+advance-requires c κs = (c .before .before .write-frames .ensures .within, ltb-true _ _ (c .before .before .before .before .before .if5 .taken))
 
 same-length-3 : tie.Need-same-length-3
 same-length-3 c = search needs

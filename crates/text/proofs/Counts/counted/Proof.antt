@@ -2,7 +2,8 @@
 -- Assumes nothing.
 use mathlib.Core.Path.{refl, sym, ap, _∙_}
 use borrow.Author.Needs.{needs}
-use Rattle.text.specs.Counting.{countedWith, same-counts}
+use Rattle.text.specs.Counting.{countedWith}
+use Rattle.text.specs.Counting.Room.{same-counts}
 use Rattle.text.proofs.Counts.counted.Statement.{statement}
 use Rattle.text.proofs.Counts.counted.Tie as tie
 

@@ -1,7 +1,7 @@
 -- `text::lines::first_line` meets its contract: the line is one word.
 -- Assumes nothing.
 use borrow.Author.Needs.{needs}
-use Rattle.text.specs.Line.{from-empty}
+use Rattle.text.specs.Line.More.{from-empty}
 use Rattle.text.proofs.lines.first_line.Statement.{statement}
 use Rattle.text.proofs.lines.first_line.Tie as tie
 

@@ -1,7 +1,7 @@
 -- `text::lines::last_line` meets its contract: three words with their numbers and a newline take at most 26 + 30 + 29 + 1 bytes.
 -- Assumes nothing.
 use borrow.Author.Needs.{needs}
-use Rattle.text.specs.Line.{and-then, from-empty}
+use Rattle.text.specs.Line.More.{and-then, from-empty}
 use Rattle.text.proofs.lines.last_line.Statement.{statement}
 use Rattle.text.proofs.lines.last_line.Tie as tie
 

@@ -1,7 +1,7 @@
 -- `text::lines::put` meets its contract: the byte takes the place of the first zero after the line (`byte-more`).
 -- Assumes nothing.
 use borrow.Author.Needs.{needs}
-use Rattle.text.specs.Line.{byte-more}
+use Rattle.text.specs.Line.More.{byte-more}
 use Rattle.text.proofs.lines.put.Statement.{statement}
 use Rattle.text.proofs.lines.put.Tie as tie
 

@@ -5,7 +5,7 @@ use native.Mathlib.Omega.{arith}
 use borrow.Author.Needs.{needs}
 use Rattle.text.specs.Numerals.{hex}
 use Rattle.text.specs.Report.{fateText}
-use Rattle.text.specs.Line.{and-then, same-text}
+use Rattle.text.specs.Line.More.{and-then, same-text}
 use Rattle.text.proofs.lines.put_fate.Statement.{statement}
 use Rattle.text.proofs.lines.put_fate.Tie as tie
 

@@ -2,7 +2,7 @@
 -- Assumes nothing.
 use borrow.Author.Needs.{needs}
 use Rattle.text.specs.Numerals.{hex}
-use Rattle.text.specs.Line.{and-then, same-byte}
+use Rattle.text.specs.Line.More.{and-then, same-byte}
 use Rattle.text.proofs.lines.put_hex.Statement.{statement}
 use Rattle.text.proofs.lines.put_hex.Tie as tie
 

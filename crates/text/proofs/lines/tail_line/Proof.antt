@@ -2,8 +2,8 @@
 -- Assumes nothing.
 use mathlib.Core.Path.{sym}
 use borrow.Author.Needs.{needs}
-use Rattle.text.specs.Report.{tail-none, tail-some}
-use Rattle.text.specs.Line.{and-then, same-text, from-empty}
+use Rattle.text.specs.Report.Counts.{tail-none, tail-some}
+use Rattle.text.specs.Line.More.{and-then, same-text, from-empty}
 use Rattle.text.proofs.lines.tail_line.Statement.{statement}
 use Rattle.text.proofs.lines.tail_line.Tie as tie
 
