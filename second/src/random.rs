@@ -46,12 +46,15 @@ impl Random {
         places
     }
 
-    /// An address of a Sector that is in range: two decimal digits each, below 100, 60 and 75.
+    /// An address of a Sector that is in range: two decimal digits each, below 100, 60 and 75, or (A0) and digits below 60 for the
+    /// minute of a Lead-in Area.
     pub fn address(&mut self) -> [u8; 3] {
-        [100, 60, 75].map(|bound| {
+        let lead_in = self.below(4) == 0;
+        let [minute, second, frame] = [if lead_in { 60 } else { 100 }, 60, 75].map(|bound| {
             let n = self.below(bound) as u8;
             n / 10 * 16 + n % 10
-        })
+        });
+        [if lead_in { minute + 0xA0 } else { minute }, second, frame]
     }
 }
 

@@ -22,13 +22,16 @@ pub fn data_length(mode: u8) -> Option<usize> {
     }
 }
 
-/// Minute, second and frame, two decimal digits each: below 100, 60 and 75.
+/// Minute, second and frame, two decimal digits each: below 100, 60 and 75. In the Lead-in Area (A0) is added to a minute below 60.
 pub fn address_in_range(address: [u8; 3]) -> bool {
     let below = |byte: u8, bound: u8| {
         let (tens, ones) = (byte / 16, byte % 16);
         tens <= 9 && ones <= 9 && 10 * tens + ones < bound
     };
-    below(address[0], 100) && below(address[1], 60) && below(address[2], 75)
+    let lead_in = |byte: u8| byte.checked_sub(0xA0).is_some_and(|minute| below(minute, 60));
+    (below(address[0], 100) || lead_in(address[0]))
+        && below(address[1], 60)
+        && below(address[2], 75)
 }
 
 /// Where the byte of a word stands in the Sector: `half` 0 is its LSB, 1 its MSB.

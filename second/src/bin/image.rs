@@ -16,20 +16,30 @@ fn address(index: usize) -> [u8; 3] {
 }
 
 fn sector(random: &mut Random, mode: u8, index: usize) -> Vec<u8> {
+    sector_at(random, mode, address(index))
+}
+
+/// A Sector of a Lead-in Area, where (A0) is added to the minute.
+fn lead_in(random: &mut Random, index: usize) -> Vec<u8> {
+    let [minute, second, frame] = address(index);
+    sector_at(random, 1, [minute + 0xA0, second, frame])
+}
+
+fn sector_at(random: &mut Random, mode: u8, address: [u8; 3]) -> Vec<u8> {
     let data = match mode {
         0 => vec![],
         1 => random.bytes(2048),
         _ => random.bytes(2336),
     };
     let mut out = vec![0; 2352];
-    write(mode, address(index), &data, &mut out).expect("a Sector that can be written");
+    write(mode, address, &data, &mut out).expect("a Sector that can be written");
     out
 }
 
-/// Twelve Sectors, clean, repaired and refused, and a tail of three bytes.
+/// Thirteen Sectors, clean, repaired and refused, one of them from a Lead-in Area, and a tail of three bytes.
 fn mixed(random: &mut Random) -> Vec<u8> {
     let mut image = Vec::new();
-    for index in 0..12 {
+    for index in 0..13 {
         let mut s = sector(random, 1, index);
         match index {
             1 => s[100] ^= 1,
@@ -43,7 +53,8 @@ fn mixed(random: &mut Random) -> Vec<u8> {
             7 => s = sector(random, 0, index),
             8 => s = sector(random, 2, index),
             9 => s[15] = 2,
-            10 => {
+            10 => s = lead_in(random, index),
+            12 => {
                 s[20] ^= 3;
                 s[20 + 86] ^= 5;
             }

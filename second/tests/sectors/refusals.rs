@@ -27,21 +27,37 @@ fn every_mode_and_any_address() {
     }
 }
 
-/// Document 01, Figures to meet: each of these alone, by all three.
+/// An address is accepted or refused by writing, judging and repair alike.
+fn by_all_three(address: [u8; 3], accepted: bool) {
+    let data = [0x5A; 2048];
+    assert_eq!(same_written(1, address, &data, LENGTH) != [0; LENGTH], accepted);
+    let mut sector = same_written(1, [0x99, 0x59, 0x74], &data, LENGTH);
+    sector[12..15].copy_from_slice(&address);
+    seal(&mut sector);
+    let judged = judge(&sector).map(|_| ());
+    assert_eq!(judged, if accepted { Ok(()) } else { Err(Refusal::WrongAddress) });
+    assert_eq!(same_judged_and_repaired(&sector).is_some(), accepted);
+}
+
+/// Document 01, Figures to meet, as document 02 §1 amends them: each of these alone.
 #[test]
 fn addresses() {
-    let data = [0x5A; 2048];
-    let refused = [[0x00, 0x60, 0x00], [0x00, 0x00, 0x75], [0x0A, 0x00, 0x00], [0xA0, 0x00, 0x00]];
-    let highest = [0x99, 0x59, 0x74];
-    for address in [highest].into_iter().chain(refused) {
-        let accepted = address == highest;
-        assert_eq!(same_written(1, address, &data, LENGTH) != [0; LENGTH], accepted);
-        let mut sector = same_written(1, highest, &data, LENGTH);
-        sector[12..15].copy_from_slice(&address);
-        seal(&mut sector);
-        let judged = judge(&sector).map(|_| ());
-        assert_eq!(judged, if accepted { Ok(()) } else { Err(Refusal::WrongAddress) });
-        assert_eq!(same_judged_and_repaired(&sector).is_some(), accepted);
+    for accepted in [[0x99, 0x59, 0x74], [0xA0, 0x00, 0x00], [0xF9, 0x59, 0x74]] {
+        by_all_three(accepted, true);
+    }
+    for refused in [[0x00, 0x60, 0x00], [0x00, 0x00, 0x75], [0x0A, 0x00, 0x00], [0xA0, 0x60, 0x00]]
+    {
+        by_all_three(refused, false);
+    }
+}
+
+/// Every minute byte: 00 to 99, and (A0) added to 00 to 59.
+#[test]
+fn every_minute() {
+    let printed = |n: u32| u8::from_str_radix(&format!("{n:02}"), 16).unwrap();
+    let right: Vec<u8> = (0..100).map(printed).chain((0..60).map(|n| printed(n) + 0xA0)).collect();
+    for minute in 0..=255 {
+        by_all_three([minute, 0x02, 0x10], right.contains(&minute));
     }
 }
 

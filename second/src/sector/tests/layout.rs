@@ -65,11 +65,13 @@ fn every_byte_is_covered_once() {
 fn addresses() {
     assert!(address_in_range([0x00, 0x00, 0x00]));
     assert!(address_in_range([0x99, 0x59, 0x74]));
-    for refused in [[0x00, 0x60, 0x00], [0x00, 0x00, 0x75], [0x0A, 0x00, 0x00], [0xA0, 0x00, 0x00]]
+    assert!(address_in_range([0xA0, 0x00, 0x00]));
+    assert!(address_in_range([0xF9, 0x59, 0x74]));
+    for refused in [[0x00, 0x60, 0x00], [0x00, 0x00, 0x75], [0x0A, 0x00, 0x00], [0xFA, 0x00, 0x00]]
     {
         assert!(!address_in_range(refused));
     }
-    // As many bytes pass at each place as there are numbers, and each passes as it is printed.
+    // As many bytes pass at each place as there are numbers, and each passes as it is printed; the Lead-in Area has 60 more minutes.
     for (place, bound) in [(0, 100), (1, 60), (2, 75)] {
         let passing: Vec<u8> = (0..=255)
             .filter(|&byte| {
@@ -78,8 +80,8 @@ fn addresses() {
                 address_in_range(address)
             })
             .collect();
-        let printed: Vec<u8> =
-            (0..bound).map(|n| u8::from_str_radix(&format!("{n:02}"), 16).unwrap()).collect();
-        assert_eq!(passing, printed);
+        let printed = |n: u8| u8::from_str_radix(&format!("{n:02}"), 16).unwrap();
+        let lead_in = (0..60).filter(|_| place == 0).map(|n| printed(n) + 0xA0);
+        assert_eq!(passing, (0..bound).map(printed).chain(lead_in).collect::<Vec<_>>());
     }
 }

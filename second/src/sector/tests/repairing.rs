@@ -110,7 +110,7 @@ fn faults_that_parity_cannot_see_are_refused() {
 #[test]
 fn wrong_addresses_are_refused_and_the_highest_is_not() {
     let sector = some_sector(&mut Random::new(8), 1);
-    for address in [[0x00, 0x60, 0x00], [0x00, 0x00, 0x75], [0x0A, 0x00, 0x00], [0xA0, 0x00, 0x00]]
+    for address in [[0x00, 0x60, 0x00], [0x00, 0x00, 0x75], [0x0A, 0x00, 0x00], [0xFA, 0x00, 0x00]]
     {
         assert_eq!(repaired(&sealed_with(&sector, 12, &address)), Err(NoSectorNear));
     }

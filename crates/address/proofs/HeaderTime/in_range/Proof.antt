@@ -7,43 +7,43 @@ use Rattle.address.specs.Address.{inRange}
 use Rattle.address.proofs.HeaderTime.in_range.Statement.{statement}
 use Rattle.address.proofs.HeaderTime.in_range.Tie as tie
 
-two-digits-requires : tie.Need-two-digits-requires
-two-digits-requires c κs = search needs
+minute-right-requires : tie.Need-minute-right-requires
+minute-right-requires c κs = search needs
 
 returns : tie.Need-returns
 unfolding inRange
-returns c = simp (sym (c .before .two-digits .ensures) ∙ not-true _ (c .if1 .taken))
+returns c = simp (sym (c .before .minute-right .ensures) ∙ not-true _ (c .if1 .taken))
 
-two-digits-requires-2 : tie.Need-two-digits-requires-2
-two-digits-requires-2 c κs = search needs
+two-digits-requires : tie.Need-two-digits-requires
+two-digits-requires c κs = search needs
 
 returns-2 : tie.Need-returns-2
 unfolding inRange
 returns-2 c =
     simp (
-      sym (c .before .before .before .two-digits .ensures) ∙ not-false _ (c .before .before .if1 .left),
-      sym (c .before .two-digits2 .ensures) ∙ not-true _ (c .if2 .taken),
+      sym (c .before .before .before .minute-right .ensures) ∙ not-false _ (c .before .before .if1 .left),
+      sym (c .before .two-digits .ensures) ∙ not-true _ (c .if2 .taken),
     )
 
-two-digits-requires-3 : tie.Need-two-digits-requires-3
-two-digits-requires-3 c κs = search needs
+two-digits-requires-2 : tie.Need-two-digits-requires-2
+two-digits-requires-2 c κs = search needs
 
 returns-3 : tie.Need-returns-3
 unfolding inRange
 returns-3 c =
     simp (
-      sym (c .before .before .before .before .two-digits .ensures) ∙ not-false _ (c .before .before .before .if1 .left),
-      sym (c .before .before .two-digits2 .ensures) ∙ not-false _ (c .before .if2 .left),
-      c .two-digits3 .ensures,
+      sym (c .before .before .before .before .minute-right .ensures) ∙ not-false _ (c .before .before .before .if1 .left),
+      sym (c .before .before .two-digits .ensures) ∙ not-false _ (c .before .if2 .left),
+      c .two-digits2 .ensures,
     )
 
 pub in-range-spec : {M : Type 1} → statement M
 in-range-spec =
     tie.close
     (tie.spec
-    two-digits-requires
+    minute-right-requires
     returns
-    two-digits-requires-2
+    two-digits-requires
     returns-2
-    two-digits-requires-3
+    two-digits-requires-2
     returns-3)
