@@ -1,3 +1,4 @@
-mod Chain
 mod Exchanging
 mod Masked
+mod Shifting
+mod Working

@@ -6,6 +6,7 @@ use Prim.Native.Nat.{ℕ, zero, suc, _+_, _*_, _%_, _≤_}
 use lib.ListN.{getD, drop, replicate}
 use Rattle.outcome.specs.Table.{tabulated}
 pub mod Follows
+pub mod Bytes
 
 -- the bits f 0, f 1, .. follow the rule; `Sequence.Follows` shows that those of `bit` below do, and no others
 pub record Rule (f : ℕ → ℕ) : Type 0 where

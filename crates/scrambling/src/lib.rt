@@ -1,7 +1,7 @@
 // Scrambling of a Sector (clause 15, Annex B) and its F1-frames (clause 16).
 mod frames;
+mod register;
 mod scrambler;
-mod table;
 
 pub use frames::cut;
 pub use frames::join;

@@ -6,7 +6,7 @@ ghost use Rattle.scrambling.specs.Entry.{sayOf};
 ghost use Rattle.scrambling.specs.Scramble.{scrambled, scrambling};
 use crate::Answer;
 use crate::SECTOR;
-use crate::table::table;
+use crate::register::worked_out;
 
 // `out` becomes the Sector, scrambled, or of a scrambled one the Sector again.
 pub fn scramble(sector: &[u8], out: &mut [u8]) -> Answer
@@ -23,12 +23,12 @@ pub fn scramble(sector: &[u8], out: &mut [u8]) -> Answer
     Answer::Done
 }
 
-// The Sync is copied only; the table is fetched once.
+// The Sync is copied only.
 fn put_scrambled(sector: &[u8], out: &mut [u8])
     requires { ⌜ (length (now sector) ≡ 2352) × (length (now out) ≡ 2352) ⌝ }
     ensures { λ _. ⌜ now (out .exit) ≡ scrambled (now (sector .entry)) ⌝ }
 {
     outcome::copy(sector, out);
-    let sequence = table();
+    let sequence = worked_out();
     xor::add(&mut out[12..], &sequence);
 }

@@ -70,17 +70,17 @@ fn sectors() -> Vec<Work> {
 
 fn frames(sector: &[u8]) -> Vec<Work> {
     type Step = fn(&[u8], &mut [u8]) -> u8;
-    let steps: [(&'static str, Step); 3] = [
-        ("scramble a Sector", proved::scramble),
-        ("cut a Sector", proved::cut),
-        ("join its frames", proved::join),
+    let steps: [(&'static str, f64, Step); 3] = [
+        ("scramble a Sector", 0.25, proved::scramble),
+        ("cut a Sector", 0.1, proved::cut),
+        ("join its frames", 0.1, proved::join),
     ];
-    let work = |(name, step): (&'static str, Step)| {
+    let work = |(name, most, step): (&'static str, f64, Step)| {
         let (sector, mut out) = (sector.to_vec(), vec![0; 2352]);
         let once = move || {
             assert_eq!(step(black_box(&sector), black_box(&mut out)), 0);
         };
-        Work::new(name, Some(0.1), once)
+        Work::new(name, Some(most), once)
     };
     steps.map(work).into()
 }

@@ -8,8 +8,8 @@ use Rattle.scrambling.proofs.scrambler.put_scrambled.Tie as tie
 copy-requires : tie.Need-copy-requires
 copy-requires c κs = search needs
 
-table-requires : tie.Need-table-requires
-table-requires c κs = search needs
+worked-out-requires : tie.Need-worked-out-requires
+worked-out-requires c κs = search needs
 
 sub-add : tie.Need-sub-add
 sub-add c = search needs
@@ -32,18 +32,18 @@ same-length c = search needs
 returns : tie.Need-returns
 returns c =
     let at-add = c .before .before in
-    let at-table = at-add .before .before .before in
-    let at-copy = at-table .before .before .before in
+    let at-sequence = at-add .before .before .before in
+    let at-copy = at-sequence .before .before .before in
     let start = at-copy .before .before .before .before in
-    masked (start .args .sector .now) (start .args .out .now) (at-copy .copy .last .1 .0) (at-table .table .result) (at-add .add .last .0)
-    (at-copy .copy .result) (at-add .add .result) (start .pre .0) (start .pre .1) (at-copy .copy .ensures) (at-table .table .ensures) (at-add .add .ensures)
+    masked (start .args .sector .now) (start .args .out .now) (at-copy .copy .last .1 .0) (at-sequence .worked-out .result) (at-add .add .last .0)
+    (at-copy .copy .result) (at-add .add .result) (start .pre .0) (start .pre .1) (at-copy .copy .ensures) (at-sequence .worked-out .ensures) (at-add .add .ensures)
 
 pub put-scrambled-spec : {M : Type 1} → statement M
 put-scrambled-spec =
     tie.close
     (tie.spec
     copy-requires
-    table-requires
+    worked-out-requires
     sub-add
     part-add-start
     part-add-end
