@@ -113,7 +113,19 @@ fn read_word(words: &[Word], word: &[u8], control: bool) -> (u8, u8) {
     }
 }
 
-/// 7,203 bytes in, 3,234 bytes and as many marks out. Refusals 1, 2, 8.
+/// Bytes and marks of a frame, the Control byte first; without a Sync Header 33 zero bytes with mark 4 (document 02, 6).
+fn read_frame(words: &[Word], frame: &[u8]) -> [(u8, u8); 33] {
+    let mut read = [(0, 4); 33];
+    if let Some(rest) = frame.strip_prefix(&SYNC_HEADER) {
+        for (place, read) in read.iter_mut().enumerate() {
+            let word = &rest[17 * place + 3..17 * place + 17];
+            *read = read_word(words, word, place == 0);
+        }
+    }
+    read
+}
+
+/// 7,203 bytes in, 3,234 bytes and as many marks out. Refusals 1, 2.
 pub fn read_section(channel: &[u8], bytes: &mut [u8], marks: &mut [u8]) -> Result<(), Refusal> {
     clear(bytes, READ_BYTES);
     clear(marks, READ_BYTES);
@@ -123,19 +135,11 @@ pub fn read_section(channel: &[u8], bytes: &mut [u8], marks: &mut [u8]) -> Resul
     if bytes.len() != READ_BYTES || marks.len() != READ_BYTES {
         return Err(WrongOutgoing);
     }
-    let bits = unpack(channel);
-    let frames: Vec<&[u8]> = bits.chunks(588).collect();
-    if let Some(frame) = frames.iter().position(|frame| !frame.starts_with(&SYNC_HEADER)) {
-        return Err(NoSyncHeader { frame });
-    }
     let words = words();
-    for (n, frame) in frames.iter().enumerate() {
-        for place in 0..33 {
-            let start = 24 + 17 * place + 3;
-            let word = &frame[start..start + 14];
-            let at = 33 * n + place;
-            (bytes[at], marks[at]) = read_word(&words, word, place == 0);
-        }
+    let bits = unpack(channel);
+    let read = bits.chunks(588).flat_map(|frame| read_frame(&words, frame));
+    for (at, (byte, mark)) in read.enumerate() {
+        (bytes[at], marks[at]) = (byte, mark);
     }
     Ok(())
 }

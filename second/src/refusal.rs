@@ -1,4 +1,4 @@
-//! Document 01, Numbers that come back.
+//! Document 01, Numbers that come back. Document 02, 6, withdraws number 8: it is given to nothing else.
 
 #[derive(Clone, Copy, Debug, PartialEq, Eq)]
 pub enum Refusal {
@@ -8,7 +8,6 @@ pub enum Refusal {
     WrongAddress,
     NoSectorNear,
     SectionsUsedUp,
-    NoSyncHeader { frame: usize },
     WrongState,
     WrongSync,
     WrongEdc,
@@ -30,7 +29,6 @@ impl Refusal {
             WrongAddress => 4,
             NoSectorNear => 5,
             SectionsUsedUp => 7,
-            NoSyncHeader { .. } => 8,
             WrongState => 9,
             WrongSync => 10,
             WrongEdc => 11,
@@ -41,10 +39,9 @@ impl Refusal {
         }
     }
 
-    /// The value that comes with 8, 13 and 14; no other number has one.
+    /// The value that comes with 13 and 14; no other number has one.
     pub fn value(self) -> Option<usize> {
         match self {
-            NoSyncHeader { frame } => Some(frame),
             WrongP { codeword } | WrongQ { codeword } => Some(codeword),
             _ => None,
         }
@@ -72,7 +69,7 @@ mod tests {
     }
 
     #[test]
-    fn numbers_differ_and_three_have_a_value() {
+    fn numbers_differ_and_two_have_a_value() {
         let all = [
             WrongIncoming,
             WrongOutgoing,
@@ -80,7 +77,6 @@ mod tests {
             WrongAddress,
             NoSectorNear,
             SectionsUsedUp,
-            NoSyncHeader { frame: 97 },
             WrongState,
             WrongSync,
             WrongEdc,
@@ -90,8 +86,8 @@ mod tests {
             WrongFiller,
         ];
         let numbers: Vec<u8> = all.iter().map(|r| r.number()).collect();
-        assert_eq!(numbers, [1, 2, 3, 4, 5, 7, 8, 9, 10, 11, 12, 13, 14, 15]);
+        assert_eq!(numbers, [1, 2, 3, 4, 5, 7, 9, 10, 11, 12, 13, 14, 15]);
         let values: Vec<usize> = all.iter().filter_map(|r| r.value()).collect();
-        assert_eq!(values, [97, 85, 51]);
+        assert_eq!(values, [85, 51]);
     }
 }

@@ -57,7 +57,8 @@ fn down(random: &mut Random, sectors: &[u8]) -> Vec<Vec<u8>> {
     sections
 }
 
-/// Up again: the Sectors and the number of frames in doubt.
+/// Up again: the Sectors and the number of frames in doubt. Marks stay behind: CIRC takes bytes alone, and the zeros of a lost
+/// frame go on as any others.
 fn up(sections: &[Vec<u8>]) -> (Vec<u8>, usize) {
     let mut reader = CircReader::new();
     let (mut frames, mut doubts) = (Vec::new(), 0);
@@ -101,21 +102,10 @@ fn wrong_words_are_mended_on_the_way() {
     assert!(up(&sections) == (sectors, 0));
 }
 
-/// Thirty frames of zero bytes: CIRC doubts, Mode 01 Sectors far from them are clean, and nothing false is handed out.
-#[test]
-fn a_long_loss_is_doubted_and_never_repaired_into_something_else() {
-    let mut random = Random::new(3);
-    let (sectors, _) = sectors(&mut random);
-    let mut sections = down(&mut random, &sectors);
-    for frame in 40..70 {
-        for place in 1..33 {
-            let bit = 588 * frame + 24 + 17 * place + 3;
-            for bit in bit..bit + 14 {
-                sections[2][bit / 8] &= !(0x80 >> (bit % 8));
-            }
-        }
-    }
-    let (read, doubts) = up(&sections);
+/// What was read is in doubt and no longer what was written; Mode 01 Sectors far from the loss are clean, and nothing false is
+/// handed out.
+fn doubted_and_nothing_false(sections: &[Vec<u8>], sectors: &[u8]) {
+    let (read, doubts) = up(sections);
     assert!(doubts > 0 && read != sectors);
     let mut clean = 0;
     for (received, sector) in read.chunks(LENGTH).zip(sectors.chunks(LENGTH)) {
@@ -129,4 +119,25 @@ fn a_long_loss_is_doubted_and_never_repaired_into_something_else() {
         }
     }
     assert!(clean >= 1);
+}
+
+/// Thirty frames of zero bytes, in their words and by their Sync Headers.
+#[test]
+fn a_long_loss_is_doubted_and_never_repaired_into_something_else() {
+    let mut random = Random::new(3);
+    let (sectors, _) = sectors(&mut random);
+    let written = down(&mut random, &sectors);
+    let (mut words, mut headers) = (written.clone(), written);
+    for frame in 40..70 {
+        for place in 1..33 {
+            let bit = 588 * frame + 24 + 17 * place + 3;
+            for bit in bit..bit + 14 {
+                words[2][bit / 8] &= !(0x80 >> (bit % 8));
+            }
+        }
+        let bit = 588 * frame + random.below(24);
+        headers[2][bit / 8] ^= 0x80 >> (bit % 8);
+    }
+    doubted_and_nothing_false(&words, &sectors);
+    doubted_and_nothing_false(&headers, &sectors);
 }

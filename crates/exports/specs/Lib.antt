@@ -1,3 +1,4 @@
 pub mod Verdicts
 pub mod Parities
 pub mod Once
+pub mod NeverEight

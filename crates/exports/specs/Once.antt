@@ -39,7 +39,7 @@ module _ {x y : ℕ} {v w : List ℕ} where
       told-one (λ a b e f. (ap (λ (z : Step S). z .say) (e ∙ sym f), (ap (λ (z : Step S). z .next) (e ∙ sym f), ap (λ (z : Step S). z .out) (e ∙ sym f))))
 
   -- reading a Section, bytes and marks
-  pub read-once : (o : ReadOut) (s t m n : List ℕ) → Told 1 (λ say. readOut say s m ≡ o) x v → Told 1 (λ say. readOut say t n ≡ o) y w
+  pub read-once : (o : ReadOut) (s t m n : List ℕ) → Told 0 (λ say. readOut say s m ≡ o) x v → Told 0 (λ say. readOut say t n ≡ o) y w
       → (x ≡ y) × (v ≡ w) × ((s ≡ t) × (m ≡ n))
   read-once o s t m n =
       told-one (λ a b e f. (ap (λ (z : ReadOut). z .say) (e ∙ sym f), (ap (λ (z : ReadOut). z .bytes) (e ∙ sym f), ap (λ (z : ReadOut). z .marks) (e ∙ sym f))))

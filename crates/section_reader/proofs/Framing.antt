@@ -13,36 +13,36 @@ use Rattle.bits.specs.Bits.{unpack}
 use Rattle.bits.specs.Packed.{length-unpack}
 use Rattle.words.specs.Words.{byteOf}
 use Rattle.section_reader.specs.declared.reader.Frame.the-variants.{Read, NoHeader}
-use Rattle.section_reader.specs.Reading.{headless, wordRead, byteFor, markFor, frameByte, frameMark}
-use Rattle.section_reader.specs.Inner.Framed.{FrameWanted, FrameRead, frameBytes, frameMarks}
+use Rattle.section_reader.specs.Reading.{headless, wordRead, byteFor, markFor, wordByte, wordMark}
+use Rattle.section_reader.specs.Inner.Framed.{FrameWanted, FrameRead, wordBytes, wordMarks}
 
-pub long-frame-bytes : (bits : List ℕ) (f : ℕ) → length (frameBytes bits f) ≡ 33
-unfolding frameBytes
-long-frame-bytes bits f = length-tabulated (frameByte bits f) 0 33
+pub long-frame-bytes : (bits : List ℕ) (f : ℕ) → length (wordBytes bits f) ≡ 33
+unfolding wordBytes
+long-frame-bytes bits f = length-tabulated (wordByte bits f) 0 33
 
-pub long-frame-marks : (bits : List ℕ) (f : ℕ) → length (frameMarks bits f) ≡ 33
-unfolding frameMarks
-long-frame-marks bits f = length-tabulated (frameMark bits f) 0 33
+pub long-frame-marks : (bits : List ℕ) (f : ℕ) → length (wordMarks bits f) ≡ 33
+unfolding wordMarks
+long-frame-marks bits f = length-tabulated (wordMark bits f) 0 33
 
-byte-at : (bits : List ℕ) (f i : ℕ) → i < 33 → getD (frameBytes bits f) i 0 ≡ frameByte bits f i
-unfolding frameBytes
-byte-at bits f i h = tabulated-at (frameByte bits f) 33 i h
+byte-at : (bits : List ℕ) (f i : ℕ) → i < 33 → getD (wordBytes bits f) i 0 ≡ wordByte bits f i
+unfolding wordBytes
+byte-at bits f i h = tabulated-at (wordByte bits f) 33 i h
 
-mark-at : (bits : List ℕ) (f i : ℕ) → i < 33 → getD (frameMarks bits f) i 0 ≡ frameMark bits f i
-unfolding frameMarks
-mark-at bits f i h = tabulated-at (frameMark bits f) 33 i h
+mark-at : (bits : List ℕ) (f i : ℕ) → i < 33 → getD (wordMarks bits f) i 0 ≡ wordMark bits f i
+unfolding wordMarks
+mark-at bits f i h = tabulated-at (wordMark bits f) 33 i h
 
 -- the first i places of both buffers, which held b and m, have what the words of frame f say
 pub record Words (bits : List ℕ) (f : ℕ) (b m : List ℕ) (i : ℕ) (bytes marks : List ℕ) : Type 0 where
-  pub of-bytes : Filling b (frameBytes bits f) i bytes
-  pub of-marks : Filling m (frameMarks bits f) i marks
+  pub of-bytes : Filling b (wordBytes bits f) i bytes
+  pub of-marks : Filling m (wordMarks bits f) i marks
 
 module _ (bits : List ℕ) (f : ℕ) (b m : List ℕ) where
   pub words-none : length b ≡ 33 → length m ≡ 33 → Words bits f b m 0 b m
   words-none p q =
       record {
-        of-bytes = filling-none b (frameBytes bits f) (p ∙ sym (long-frame-bytes bits f));
-        of-marks = filling-none m (frameMarks bits f) (q ∙ sym (long-frame-marks bits f));
+        of-bytes = filling-none b (wordBytes bits f) (p ∙ sym (long-frame-bytes bits f));
+        of-marks = filling-none m (wordMarks bits f) (q ∙ sym (long-frame-marks bits f));
       }
 
   module _ (i : ℕ) (bytes marks : List ℕ) (h : Words bits f b m i bytes marks) where

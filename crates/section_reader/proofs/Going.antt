@@ -1,24 +1,23 @@
--- Reading frame after frame: those that were read fill both buffers from the front, and the first without a Sync Header, if there is one, is
--- among those to come.
+-- Reading frame after frame: each fills its part of both buffers, whether it was read or is lost.
 -- Assumes nothing.
 use mathlib.Core.Path.{_≡_, refl, sym, ap, _∙_, subst}
-use mathlib.Core.Bool.{Bool, true, false, cond}
+use mathlib.Core.Bool.{Bool, true, false}
 use mathlib.Core.List.{List, _++_}
-use mathlib.Core.Option.{none, some}
-use Prim.Native.Nat.{ℕ, suc, _+_, _-_, _*_, _≤_, _<_}
-use native.Mathlib.Numerals.{add-one}
+use Prim.Native.Nat.{ℕ, _+_, _-_, _*_, _≤_, _<_}
 use native.Mathlib.Omega.{arith}
 use borrow.Rule.Slice.PartMut.{midOf, putMid, put-same, mid-len}
-use lib.ListN.{length, take, drop}
+use lib.ListN.{length, take, drop, replicate}
 use Rattle.outcome.specs.Buffer.{Filling}
 use Rattle.outcome.specs.Buffer.Filled.{filling-none, filling-part, filling-long, filling-all}
 use Rattle.outcome.specs.Buffer.Part.{part-back}
 use Rattle.bits.specs.Bits.{unpack}
 use Rattle.section_reader.specs.declared.reader.Frame.{Frame}
 use Rattle.section_reader.specs.declared.reader.Frame.the-variants.{Read, NoHeader}
-use Rattle.section_reader.specs.Reading.{headless, headlessFrom, firstHeadless, bytesRead, marksRead}
-use Rattle.section_reader.specs.Reading.Places.{long-bytes, long-marks, bytes-of-frame, marks-of-frame}
-use Rattle.section_reader.specs.Inner.Framed.{FrameRead, frameSays, frameBytes, frameMarks}
+use Rattle.section_reader.specs.Reading.{headless, bytesRead, marksRead}
+use Rattle.section_reader.specs.Reading.Places.{long-bytes, long-marks}
+use Rattle.section_reader.specs.Reading.Lost.{bytes-lost, marks-lost}
+use Rattle.section_reader.specs.Reading.Standing.{bytes-standing, marks-standing}
+use Rattle.section_reader.specs.Inner.Framed.{FrameRead, frameSays, wordBytes, wordMarks}
 
 -- what the answer tells of the frame
 told-read : (t : Bool) (r : Frame) → r ≡ frameSays t → r ≡ Read → t ≡ false
@@ -29,39 +28,16 @@ told-missed : (t : Bool) (r : Frame) → r ≡ frameSays t → r ≡ NoHeader �
 told-missed true r p q = refl
 told-missed false r p q = cc
 
--- ---- the search for the first frame without a Sync Header
-
-module _ (bits : List ℕ) (f : ℕ) (h : f < 98) where
-  one-more : 98 - f ≡ suc (98 - (f + 1))
-  one-more = omega arith
-
-  here : headlessFrom bits f (98 - f) ≡ cond (headless bits f) (some f) (headlessFrom bits (f + 1) (98 - (f + 1)))
-  unfolding headlessFrom
-  here = rw (one-more, add-one)
-
-  -- frame f has a Sync Header: the search goes on after it
-  goes-on : headless bits f ≡ false → headlessFrom bits f (98 - f) ≡ headlessFrom bits (f + 1) (98 - (f + 1))
-  goes-on e = here ∙ rw e
-
-  -- frame f has none: it is found
-  stops : headless bits f ≡ true → headlessFrom bits f (98 - f) ≡ some f
-  stops e = here ∙ rw e
-
--- ---- both buffers
-
 -- f frames of both buffers, which held b and m, are read
 pub record Going (channel b m : List ℕ) (f : ℕ) (bytes marks : List ℕ) : Type 0 where
   pub upto : f ≤ 98
-  pub to-come : firstHeadless (unpack channel) ≡ headlessFrom (unpack channel) f (98 - f)
   pub of-bytes : Filling b (bytesRead (unpack channel)) (33 * f) bytes
   pub of-marks : Filling m (marksRead (unpack channel)) (33 * f) marks
 
 pub going-none : (channel b m : List ℕ) → length b ≡ 3234 → length m ≡ 3234 → Going channel b m 0 b m
-unfolding firstHeadless
 going-none channel b m p q =
     record {
       upto = omega arith;
-      to-come = refl;
       of-bytes = filling-none b (bytesRead (unpack channel)) (p ∙ sym (long-bytes (unpack channel)));
       of-marks = filling-none m (marksRead (unpack channel)) (q ∙ sym (long-marks (unpack channel)));
     }
@@ -96,35 +72,54 @@ module _ {channel b m : List ℕ} {f : ℕ} {bytes marks : List ℕ} (g : Going 
         mid-len (33 * f) (33 * f + 33) marks (omega arith) ∙ omega arith,
       )
 
-  pub going-all : 98 ≤ f → (firstHeadless (unpack channel) ≡ none) × (bytes ≡ bytesRead (unpack channel)) × (marks ≡ marksRead (unpack channel))
-  unfolding headlessFrom
-  going-all h =
-      let e : 98 - f ≡ 0 = omega arith in (
-        g .to-come ∙ ap (headlessFrom (unpack channel) f) e,
-        filling-all (g .of-bytes) (omega (arith, long-bytes (unpack channel))),
-        filling-all (g .of-marks) (omega (arith, long-marks (unpack channel))),
-      )
+  pub going-all : 98 ≤ f → (bytes ≡ bytesRead (unpack channel)) × (marks ≡ marksRead (unpack channel))
+  going-all h = (
+    filling-all (g .of-bytes) (omega (arith, long-bytes (unpack channel))),
+    filling-all (g .of-marks) (omega (arith, long-marks (unpack channel))),
+  )
 
-  module _ (h : f < 98) {x y : List ℕ} (r : Frame) (a : FrameRead channel f (lent f bytes) (lent f marks) x y r) where
-    -- frame f has no Sync Header: it is the first, and both buffers are as long as they were
-    pub going-missed : r ≡ NoHeader → (firstHeadless (unpack channel) ≡ some f) × (length (back f bytes x) ≡ 3234) × (length (back f marks y) ≡ 3234)
-    going-missed e =
-        let t = told-missed (headless (unpack channel) f) r (a .says) e in (
-          g .to-come ∙ stops (unpack channel) f h t,
-          ap (λ (o : List ℕ). length (back f bytes o)) (rw t at (a .bytes-are)) ∙ ap length (put-same (33 * f) (33 * f + 33 - 33 * f) bytes) ∙ going-long .0,
-          ap (λ (o : List ℕ). length (back f marks o)) (rw t at (a .marks-are)) ∙ ap length (put-same (33 * f) (33 * f + 33 - 33 * f) marks) ∙ going-long .1,
-        )
-
-    -- frame f is read
-    pub going-more : r ≡ Read → Going channel b m (f + 1) (back f bytes x) (back f marks y)
-    unfolding frameBytes frameMarks
-    going-more e =
-        let t = told-read (headless (unpack channel) f) r (a .says) e in
+  module _ (h : f < 98) where
+    -- both buffers with what frame f gives in its places
+    frame-more : (x y : List ℕ) → x ≡ take 33 (drop (33 * f) (bytesRead (unpack channel))) → y ≡ take 33 (drop (33 * f) (marksRead (unpack channel)))
+        → Going channel b m (f + 1) (back f bytes x) (back f marks y)
+    frame-more x y p q =
         record {
           upto = omega arith;
-          to-come = g .to-come ∙ goes-on (unpack channel) f h t;
-          of-bytes = part-more b (bytesRead (unpack channel)) bytes x f (g .of-bytes) (omega (arith, long-bytes (unpack channel)))
-              ((rw t at (a .bytes-are)) ∙ bytes-of-frame (unpack channel) f h);
-          of-marks = part-more m (marksRead (unpack channel)) marks y f (g .of-marks) (omega (arith, long-marks (unpack channel)))
-              ((rw t at (a .marks-are)) ∙ marks-of-frame (unpack channel) f h);
+          of-bytes = part-more b (bytesRead (unpack channel)) bytes x f (g .of-bytes) (omega (arith, long-bytes (unpack channel))) p;
+          of-marks = part-more m (marksRead (unpack channel)) marks y f (g .of-marks) (omega (arith, long-marks (unpack channel))) q;
         }
+
+    module _ {x y : List ℕ} (r : Frame) (a : FrameRead channel f (lent f bytes) (lent f marks) x y r) where
+      -- frame f is read
+      pub going-read : r ≡ Read → Going channel b m (f + 1) (back f bytes x) (back f marks y)
+      unfolding wordBytes wordMarks
+      going-read e =
+          let t = told-read (headless (unpack channel) f) r (a .says) e in
+          frame-more x y ((rw t at (a .bytes-are)) ∙ sym (bytes-standing (unpack channel) f t h)) ((rw t at (a .marks-are)) ∙ sym (marks-standing (unpack channel) f t h))
+
+      -- frame f has no Sync Header: both buffers are as they were
+      same-missed : r ≡ NoHeader → (back f bytes x ≡ bytes) × (back f marks y ≡ marks)
+      same-missed e =
+          let t = told-missed (headless (unpack channel) f) r (a .says) e in (
+            ap (back f bytes) (rw t at (a .bytes-are)) ∙ put-same (33 * f) (33 * f + 33 - 33 * f) bytes,
+            ap (back f marks) (rw t at (a .marks-are)) ∙ put-same (33 * f) (33 * f + 33 - 33 * f) marks,
+          )
+
+      pub missed-long : r ≡ NoHeader → (length (back f bytes x) ≡ 3234) × (length (back f marks y) ≡ 3234)
+      missed-long e =
+          let s = same-missed e in
+          (ap length (s .0) ∙ going-long .0, ap length (s .1) ∙ going-long .1)
+
+      pub missed-room : r ≡ NoHeader → (length (lent f (back f bytes x)) ≡ 33) × (length (lent f (back f marks y)) ≡ 33)
+      missed-room e =
+          let s = same-missed e in
+          let room = going-room h in
+          (ap (λ (o : List ℕ). length (lent f o)) (s .0) ∙ room .0, ap (λ (o : List ℕ). length (lent f o)) (s .1) ∙ room .1)
+
+      -- and zeros and marks 4 come into its places
+      pub going-lost : r ≡ NoHeader → (u v : List ℕ) → u ≡ replicate 33 0 → v ≡ replicate 33 4
+          → Going channel b m (f + 1) (back f (back f bytes x) u) (back f (back f marks y) v)
+      going-lost e u v p q =
+          let t = told-missed (headless (unpack channel) f) r (a .says) e in
+          let s = same-missed e in
+          rw (s .0, s .1) (frame-more u v (p ∙ sym (bytes-lost (unpack channel) f t h)) (q ∙ sym (marks-lost (unpack channel) f t h)))

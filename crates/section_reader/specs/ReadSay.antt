@@ -1,24 +1,24 @@
--- What reading a Section answers, and what it leaves in both buffers (document 01, "Numbers that come back": 1, 2, 8).
+-- What reading a Section answers, and what it leaves in both buffers (document 01, "Numbers that come back": 1, 2; 8 is withdrawn by document 02, §6).
 -- Assumes nothing.
 use mathlib.Core.Bool.{_&&_}
-use mathlib.Core.List.{List, [], _∷_}
-use mathlib.Core.Option.{Option, none, some}
-use Prim.Native.Nat.{ℕ}
+use mathlib.Core.List.{List, []}
 use lib.Dec.{eqb}
+use Prim.Native.Nat.{ℕ}
 use lib.ListN.{length}
 use Rattle.outcome.specs.Say.{Say, done, refused, demand, leaves}
 use Rattle.bits.specs.Bits.{unpack}
 use Rattle.section_reader.specs.declared.SectionRead.{SectionRead}
-use Rattle.section_reader.specs.declared.SectionRead.the-variants.{Done, WrongIncoming, WrongOutgoing, NoHeader}
-use Rattle.section_reader.specs.Reading.{firstHeadless, bytesRead, marksRead}
+use Rattle.section_reader.specs.declared.SectionRead.the-variants.{Done, WrongIncoming, WrongOutgoing}
+use Rattle.section_reader.specs.Reading.{bytesRead, marksRead}
 pub mod One
+pub mod NeverEight
+pub mod AsBefore
 
 -- document 01's number and values for each answer
 abbrev pub sayRead : SectionRead → Say
 sayRead Done = done []
 sayRead WrongIncoming = refused 1 []
 sayRead WrongOutgoing = refused 2 []
-sayRead (NoHeader f) = refused 8 (f ∷ [])
 
 -- all that reading does: what it says, and what both buffers then hold
 pub record ReadOut : Type 0 where
@@ -29,16 +29,9 @@ pub record ReadOut : Type 0 where
 abbrev pub readOut : Say → List ℕ → List ℕ → ReadOut
 readOut s b m = record { say = s; bytes = b; marks = m }
 
--- each frame must begin with the Sync Header; the number of the first that doesn't comes with the refusal
-abbrev pub headersSay : Option ℕ → Say
-headersSay none = done []
-headersSay (some f) = refused 8 (f ∷ [])
-
 -- the demands in document 01's order
 unfoldable pub readSay : List ℕ → List ℕ → List ℕ → Say
-readSay channel bytes marks =
-    demand (eqb (length channel) 7203) 1
-    (demand (eqb (length bytes) 3234 && eqb (length marks) 3234) 2 (headersSay (firstHeadless (unpack channel))))
+readSay channel bytes marks = demand (eqb (length channel) 7203) 1 (demand (eqb (length bytes) 3234 && eqb (length marks) 3234) 2 (done []))
 
 unfoldable pub sectionRead : List ℕ → List ℕ → List ℕ → ReadOut
 sectionRead channel bytes marks =

@@ -1,10 +1,9 @@
--- Reading a Section (document 01, "Channel bits"): Merging bits are ignored; each of the 98 frames must begin with the Sync Header, and gives 33 bytes
--- and 33 marks, the Control byte first.
+-- Reading a Section (document 01, "Channel bits"; document 02, §6): Merging bits are ignored; each of the 98 frames gives 33 bytes and 33 marks, the
+-- Control byte first. A frame that does not begin with the Sync Header gives zeros with mark 4.
 -- Assumes nothing.
 use mathlib.Core.Bool.{Bool, cond, not}
 use mathlib.Core.List.{List}
-use mathlib.Core.Option.{Option, none, some}
-use Prim.Native.Nat.{ℕ, zero, suc, _+_, _*_, _/_, _%_}
+use Prim.Native.Nat.{ℕ, _+_, _*_, _/_, _%_}
 use lib.Dec.{eqb}
 use lib.ListN.{take, drop}
 use Rattle.outcome.specs.Table.{tabulated}
@@ -12,25 +11,22 @@ use Rattle.bits.specs.Bits.{number}
 use Rattle.words.specs.declared.Symbol.{Symbol}
 use Rattle.words.specs.declared.Symbol.the-variants.{Byte, Unknown}
 use Rattle.words.specs.Words.{byteOf, sync0, sync1}
-pub mod Headers
 pub mod Places
+pub mod Alone
+pub mod Lost
+pub mod Standing
 
 -- the number of n bits from bit p on
 abbrev pub fieldAt : List ℕ → ℕ → ℕ → ℕ
 fieldAt bits p n = number 0 (take n (drop p bits))
 
+-- the 588 bits of frame f
+abbrev pub frameBits : List ℕ → ℕ → List ℕ
+frameBits bits f = take 588 (drop (588 * f) bits)
+
 -- frame f does not begin with the Sync Header
 abbrev pub headless : List ℕ → ℕ → Bool
 headless bits f = not (eqb (fieldAt bits (588 * f) 24) 0b100000000001000000000010)
-
--- the first such frame of the n frames from f on, if there is one
-unfoldable pub headlessFrom : List ℕ → ℕ → ℕ → Option ℕ
-headlessFrom bits f zero = none
-headlessFrom bits f (suc n) = cond (headless bits f) (some f) (headlessFrom bits (suc f) n)
-
--- the first such frame of all 98, if there is one
-unfoldable pub firstHeadless : List ℕ → Option ℕ
-firstHeadless bits = headlessFrom bits 0 98
 
 -- the word at place i of frame f: the Sync Header has 24 bits, and each word stands after three Merging bits
 abbrev pub wordRead : List ℕ → ℕ → ℕ → ℕ
@@ -46,12 +42,19 @@ abbrev pub markFor : Symbol → ℕ → ℕ → ℕ
 markFor (Byte b) w i = 0
 markFor Unknown w i = cond (eqb i 0) (cond (eqb w sync0) 2 (cond (eqb w sync1) 3 1)) 1
 
--- the byte at place i of frame f, and its mark
+-- the byte of the word at place i of frame f, and its mark
+abbrev pub wordByte : List ℕ → ℕ → ℕ → ℕ
+wordByte bits f i = byteFor (byteOf (wordRead bits f i))
+
+abbrev pub wordMark : List ℕ → ℕ → ℕ → ℕ
+wordMark bits f i = markFor (byteOf (wordRead bits f i)) (wordRead bits f i) i
+
+-- what is read at place i of frame f: the byte of its word and its mark, or 0 and 4 where the frame has no Sync Header
 abbrev pub frameByte : List ℕ → ℕ → ℕ → ℕ
-frameByte bits f i = byteFor (byteOf (wordRead bits f i))
+frameByte bits f i = cond (headless bits f) 0 (wordByte bits f i)
 
 abbrev pub frameMark : List ℕ → ℕ → ℕ → ℕ
-frameMark bits f i = markFor (byteOf (wordRead bits f i)) (wordRead bits f i) i
+frameMark bits f i = cond (headless bits f) 4 (wordMark bits f i)
 
 -- byte and mark at place k of all 98 times 33, frame by frame
 abbrev pub byteRead : List ℕ → ℕ → ℕ

@@ -3,7 +3,7 @@ ghost use mathlib.Core.Path.{_≡_};
 ghost use mathlib.Core.Bool.{cond};
 ghost use Prim.Native.Nat.{_+_, _*_, _≤_, _<_, _^_};
 ghost use lib.Dec.{eqb};
-ghost use lib.ListN.{length};
+ghost use lib.ListN.{length, replicate};
 ghost use Rattle.bits.specs.Bits.{unpack};
 ghost use Rattle.words.specs.Words.{words, byteOf, sync0, sync1};
 ghost use Rattle.words.specs.LookUp.{Guide};
@@ -98,4 +98,17 @@ pub(crate) fn read_frame(
         i += 1;
     }
     Frame::Read
+}
+
+// What is written of a frame without a Sync Header: 33 bytes 0 and 33 marks 4.
+pub(crate) fn lose_frame(bytes: &mut [u8], marks: &mut [u8])
+    requires { ⌜ (length (now bytes) ≡ 33) × (length (now marks) ≡ 33) ⌝ }
+    ensures { λ _. ⌜ (now (bytes .exit) ≡ replicate 33 0) × (now (marks .exit) ≡ replicate 33 4) ⌝ }
+{
+    outcome::clear(bytes);
+    let mut place: usize = 0;
+    while place < 33 {
+        marks[place] = 4;
+        place += 1;
+    }
 }

@@ -1,6 +1,7 @@
 //! Clause 19.
 
 mod choosing;
+mod lost;
 mod reading;
 mod refusals;
 mod writing;
@@ -30,4 +31,13 @@ pub fn expected(frames: &[u8], control: &[u8]) -> (Vec<u8>, Vec<u8>) {
         marks.extend([0; 32]);
     }
     (bytes, marks)
+}
+
+/// A Section of random bytes from a fresh writer, with its frames and Control bytes.
+pub fn some_section(seed: u64) -> (Vec<u8>, Vec<u8>, Vec<u8>) {
+    let mut random = Random::new(seed);
+    let frames = random.bytes(FRAME_BYTES);
+    let control = random.bytes(CONTROL_BYTES);
+    let section = written(&mut SectionWriter::new(), &frames, &control);
+    (section, frames, control)
 }

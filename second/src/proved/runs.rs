@@ -1,6 +1,5 @@
 //! Runs of CIRC steps, and Sections.
 
-use super::{told, Told};
 use crate::channel::SectionWriter;
 
 extern "C" {
@@ -39,7 +38,6 @@ extern "C" {
         bytes_length: usize,
         marks: *mut u8,
         marks_length: usize,
-        frame: *mut [u64; 1],
     ) -> u8;
 }
 
@@ -92,11 +90,9 @@ pub fn write_section(
     }
 }
 
-pub fn read_section(channel: &[u8], bytes: &mut [u8], marks: &mut [u8]) -> Told<1> {
+pub fn read_section(channel: &[u8], bytes: &mut [u8], marks: &mut [u8]) -> u8 {
     let (bytes, bytes_length) = (bytes.as_mut_ptr(), bytes.len());
     let (marks, marks_length) = (marks.as_mut_ptr(), marks.len());
     let (channel, length) = (channel.as_ptr(), channel.len());
-    told(|frame| unsafe {
-        road_read_section(channel, length, bytes, bytes_length, marks, marks_length, frame)
-    })
+    unsafe { road_read_section(channel, length, bytes, bytes_length, marks, marks_length) }
 }

@@ -5,7 +5,7 @@ mod reading;
 mod writing;
 
 use second::channel::*;
-use second::proved::{self, Told};
+use second::proved;
 use second::random::Random;
 
 fn same_written(
@@ -24,11 +24,11 @@ fn same_written(
     (answer, found)
 }
 
-fn same_read(channel: &[u8], lengths: [usize; 2]) -> (Told<1>, [Vec<u8>; 2]) {
+fn same_read(channel: &[u8], lengths: [usize; 2]) -> (u8, [Vec<u8>; 2]) {
     let mut expected = lengths.map(|length| vec![0xAA; length]);
     let mut found = expected.clone();
     let [bytes, marks] = &mut expected;
-    let answer = proved::told_of(read_section(channel, bytes, marks), |()| vec![]);
+    let answer = proved::number_of(read_section(channel, bytes, marks));
     let [bytes, marks] = &mut found;
     assert_eq!(proved::read_section(channel, bytes, marks), answer);
     assert!(found == expected);

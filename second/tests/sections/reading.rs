@@ -17,24 +17,54 @@ fn damaged_words() {
             flip(&mut channel, 588 * random.below(98) + 24 + random.below(564));
         }
         let (answer, [_, marks]) = same_read(&channel, [READ_BYTES; 2]);
-        assert_eq!(answer.number, 0);
+        assert_eq!(answer, 0);
         unknown += marks.iter().filter(|&&mark| mark == 1).count();
     }
     assert!(unknown > 1_000, "{unknown}");
 }
 
-/// A wrong bit in one or two Sync Headers: 8 with the number of the first.
+/// Numbers of so many different frames, in no order.
+fn some_frames(random: &mut Random, count: usize) -> Vec<usize> {
+    let mut frames: Vec<usize> = (0..98).collect();
+    (0..count).map(|_| frames.swap_remove(random.below(frames.len()))).collect()
+}
+
+/// The Section with a wrong bit at this place of these frames' Sync Headers: each of them is 33 zeros with mark 4, the Control
+/// byte's place included, every other frame is as it was, and nothing is refused.
+fn lose(channel: &[u8], frames: &[usize], place: usize) {
+    let (_, [mut bytes, mut marks]) = same_read(channel, [READ_BYTES; 2]);
+    let mut damaged = channel.to_vec();
+    for frame in frames {
+        flip(&mut damaged, 588 * frame + place);
+        bytes[33 * frame..][..33].fill(0);
+        marks[33 * frame..][..33].fill(4);
+    }
+    assert_eq!(same_read(&damaged, [READ_BYTES; 2]), (0, [bytes, marks]));
+}
+
+/// 1, 2, 97 and all 98 Sync Headers lost, by each of their 24 bits.
 #[test]
 fn lost_headers() {
     let mut random = Random::new(2);
-    for n in 0..98 {
+    for count in [1, 2, 97, 98] {
+        for place in 0..24 {
+            let channel = section(&mut random);
+            lose(&channel, &some_frames(&mut random, count), place);
+        }
+    }
+}
+
+/// Each of the 98 Sync Headers lost alone, among damaged words; and two neighbours.
+#[test]
+fn every_header_lost_alone() {
+    let mut random = Random::new(6);
+    for frame in 0..98 {
         let mut channel = section(&mut random);
-        flip(&mut channel, 588 * n + random.below(24));
-        let refused = Told { number: 8, values: [n as u64] };
-        assert_eq!(same_read(&channel, [READ_BYTES; 2]).0, refused);
-        let other = random.below(98);
-        flip(&mut channel, 588 * other + random.below(24));
-        same_read(&channel, [READ_BYTES; 2]);
+        for _ in 0..random.below(300) {
+            flip(&mut channel, 588 * random.below(98) + 24 + random.below(564));
+        }
+        lose(&channel, &[frame], random.below(24));
+        lose(&channel, &[frame, (frame + 1) % 98], random.below(24));
     }
 }
 
@@ -66,15 +96,17 @@ fn every_word_in_each_kind_of_place() {
     assert!(met.iter().all(|&count| count > 0), "{met:?}");
 }
 
-/// Bytes of no order, all zeros and all ones.
+/// Bytes of no order, all zeros and all ones: nothing is refused.
 #[test]
 fn no_sections() {
     let mut random = Random::new(4);
     for _ in 0..20 {
-        same_read(&random.bytes(PACKED), [READ_BYTES; 2]);
+        assert_eq!(same_read(&random.bytes(PACKED), [READ_BYTES; 2]).0, 0);
     }
-    same_read(&[0; PACKED], [READ_BYTES; 2]);
-    same_read(&[0xFF; PACKED], [READ_BYTES; 2]);
+    for byte in [0x00, 0xFF] {
+        let (answer, read) = same_read(&[byte; PACKED], [READ_BYTES; 2]);
+        assert_eq!((answer, read), (0, [vec![0; READ_BYTES], vec![4; READ_BYTES]]));
+    }
 }
 
 /// Refusals 1 and 2, where either buffer is wrong; the other is cleared.

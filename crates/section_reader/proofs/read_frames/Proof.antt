@@ -1,12 +1,13 @@
--- `read_frames` meets its contract. The invariant: the frames before f are in both buffers, and the first without a Sync Header, if there is one,
--- is among those from f on (`Going`).
+-- `read_frames` meets its contract. The invariant: the frames before f are in both buffers (`Going`); one that is read fills its places
+-- (`going-read`), and one that is lost does too (`going-lost`).
 -- Assumes nothing.
 use mathlib.Core.Path.{sym, _∙_}
-use Prim.Native.Nat.{_-_}
+use Prim.Native.Nat.{ℕ, _+_, _-_, _<_}
+use mir.Syntax.{w64}
+use mir.Val.{Fits}
 use native.Mathlib.Omega.{arith}
 use borrow.Author.Needs.{needs}
-use Rattle.section_reader.proofs.Going.{Going, going-none, going-long, going-room, going-more, going-missed, going-all}
-use Rattle.section_reader.proofs.Ways.{zeros-long, no-header, all-read}
+use Rattle.section_reader.proofs.Going.{Going, going-none, going-long, going-room, going-read, missed-long, missed-room, going-lost, going-all}
 use Rattle.section_reader.proofs.read_frames.Statement.{statement}
 use Rattle.section_reader.proofs.read_frames.Tie as tie
 
@@ -15,6 +16,13 @@ Inv-loop channel bytes₀ marks₀ table guide f₀ bytes marks f = Going channe
 
 abbrev μ-loop : tie.MeasureT-loop
 μ-loop channel bytes₀ marks₀ table guide f₀ bytes marks f = 98 - f
+
+-- there is a next frame, and fewer are to come
+next-fits : (f : ℕ) → f < 98 → Fits w64 (f + 1)
+next-fits f h = record { fits = omega arith }
+
+fewer : (f : ℕ) → f < 98 → 98 - (f + 1) < 98 - f
+fewer f h = omega arith
 
 all-words-requires : tie.Need-all-words-requires Inv-loop μ-loop
 all-words-requires c κs = search needs
@@ -74,57 +82,74 @@ enum-told c = search needs
 enum-told-2 : tie.Need-enum-told-2 Inv-loop μ-loop
 enum-told-2 c = search needs
 
-clear-requires : tie.Need-clear-requires Inv-loop μ-loop
-clear-requires c κs = search needs
+add-lose-frame : tie.Need-add-lose-frame Inv-loop μ-loop
+add-lose-frame c = search needs
 
-clear-requires-2 : tie.Need-clear-requires-2 Inv-loop μ-loop
-clear-requires-2 c κs = search needs
+sub-lose-frame : tie.Need-sub-lose-frame Inv-loop μ-loop
+sub-lose-frame c = search needs
 
-same-length : tie.Need-same-length Inv-loop μ-loop
-same-length c =
-    let r = c .before .before .before .before .before .before .before .before .before .before .before .before .before .before in
+part-lose-frame-start : tie.Need-part-lose-frame-start Inv-loop μ-loop
+part-lose-frame-start c = search needs
+
+part-lose-frame-end : tie.Need-part-lose-frame-end Inv-loop μ-loop
+part-lose-frame-end c =
+    let r = c .before .before .before .before .before .before in
     let t = r .before .before .before .before .before in
-    let g = going-missed (t .before .loop .inv) (t .loop-test .taken) (r .read-frame .result) (r .read-frame .ensures) (c .before .before .before .before .before .before .before .before .enum-told2 .given .1) in
-    zeros-long _ _ (g .1) (c .before .before .before .before .before .before .clear .ensures) ∙ sym (t .before .before .before .before .before .before .before .pre .1)
+    omega (arith, missed-long (t .before .loop .inv) (t .loop-test .taken) (r .read-frame .result) (r .read-frame .ensures) (c .enum-told2 .given .1) .0)
 
-same-length-2 : tie.Need-same-length-2 Inv-loop μ-loop
-same-length-2 c =
-    let r = c .before .before .before .before .before .before .before .before .before .before .before .before .before .before in
-    let t = r .before .before .before .before .before in
-    let g = going-missed (t .before .loop .inv) (t .loop-test .taken) (r .read-frame .result) (r .read-frame .ensures) (c .before .before .before .before .before .before .before .before .enum-told2 .given .1) in
-    zeros-long _ _ (g .2) (c .before .before .clear2 .ensures) ∙ sym (t .before .before .before .before .before .before .before .pre .2)
+add-lose-frame-2 : tie.Need-add-lose-frame-2 Inv-loop μ-loop
+add-lose-frame-2 c = search needs
 
-returns : tie.Need-returns Inv-loop μ-loop
-returns c =
-    let r = c .before .before .before .before .before .before .before .before .before .before .before .before .before .before in
+sub-lose-frame-2 : tie.Need-sub-lose-frame-2 Inv-loop μ-loop
+sub-lose-frame-2 c = search needs
+
+part-lose-frame-start-2 : tie.Need-part-lose-frame-start-2 Inv-loop μ-loop
+part-lose-frame-start-2 c = search needs
+
+part-lose-frame-end-2 : tie.Need-part-lose-frame-end-2 Inv-loop μ-loop
+part-lose-frame-end-2 c =
+    let r = c .before .before .before .before .before .before .before in
     let t = r .before .before .before .before .before in
-    let p = t .before .before .before .before .before .before .before .pre in
-    let g = going-missed (t .before .loop .inv) (t .loop-test .taken) (r .read-frame .result) (r .read-frame .ensures) (c .before .before .before .before .before .before .before .before .enum-told2 .given .1) in
-    no-header _ _ _ (p .0) (p .1) (p .2) _ (g .0) _ _ _ _ (g .1) (g .2) (c .before .before .before .before .before .before .clear .ensures) (c .before .before .clear2 .ensures)
+    omega (arith, missed-long (t .before .loop .inv) (t .loop-test .taken) (r .read-frame .result) (r .read-frame .ensures) (c .before .enum-told2 .given .1) .1)
+
+lose-frame-requires : tie.Need-lose-frame-requires Inv-loop μ-loop
+lose-frame-requires c κs =
+    let r = c .before .before .before .before .before .before .before .before in
+    let t = r .before .before .before .before .before in
+    missed-room (t .before .loop .inv) (t .loop-test .taken) (r .read-frame .result) (r .read-frame .ensures) (c .before .before .enum-told2 .given .1)
 
 add-f : tie.Need-add-f Inv-loop μ-loop
-add-f c = search needs
+add-f c = next-fits _ (c .before .before .before .before .before .before .before .before .before .before .before .before .before .before .before .before .before .before .loop-test .taken)
 
 loop-less : tie.Need-loop-less Inv-loop μ-loop
-loop-less c = search needs
+loop-less c = fewer _ (c .before .before .before .before .before .before .before .before .before .before .before .before .before .before .before .before .before .before .loop-test .taken)
 
 loop-again : tie.Need-loop-again Inv-loop μ-loop
 loop-again c =
+    let r = c .before .before .before .before .before .before .before .before .before .before .before .before .before in
+    let t = r .before .before .before .before .before in
+    going-lost (t .before .loop .inv) (t .loop-test .taken) (r .read-frame .result) (r .read-frame .ensures) (c .before .before .before .before .before .before .before .enum-told2 .given .1) _ _ (c .before .before .before .before .lose-frame .ensures .0) (c .before .before .before .before .lose-frame .ensures .1)
+
+add-f-2 : tie.Need-add-f-2 Inv-loop μ-loop
+add-f-2 c = search needs
+
+loop-less-2 : tie.Need-loop-less-2 Inv-loop μ-loop
+loop-less-2 c = search needs
+
+loop-again-2 : tie.Need-loop-again-2 Inv-loop μ-loop
+loop-again-2 c =
     let r = c .before .before .before .before .before .before in
     let t = r .before .before .before .before .before in
-    going-more (t .before .loop .inv) (t .loop-test .taken) (r .read-frame .result) (r .read-frame .ensures) (c .enum-told .given .1)
+    going-read (t .before .loop .inv) (t .loop-test .taken) (r .read-frame .result) (r .read-frame .ensures) (c .enum-told .given .1)
 
-same-length-3 : tie.Need-same-length-3 Inv-loop μ-loop
-same-length-3 c = going-long (c .before .loop .inv) .0 ∙ sym (c .before .before .before .before .before .before .before .pre .1)
+same-length : tie.Need-same-length Inv-loop μ-loop
+same-length c = going-long (c .before .loop .inv) .0 ∙ sym (c .before .before .before .before .before .before .before .pre .1)
 
-same-length-4 : tie.Need-same-length-4 Inv-loop μ-loop
-same-length-4 c = going-long (c .before .loop .inv) .1 ∙ sym (c .before .before .before .before .before .before .before .pre .2)
+same-length-2 : tie.Need-same-length-2 Inv-loop μ-loop
+same-length-2 c = going-long (c .before .loop .inv) .1 ∙ sym (c .before .before .before .before .before .before .before .pre .2)
 
-returns-2 : tie.Need-returns-2 Inv-loop μ-loop
-returns-2 c =
-    let a = c .before .before .before .before .before .before .before in
-    let g = going-all (c .before .loop .inv) (c .loop-test .left) in
-    all-read _ _ _ (a .pre .0) (a .pre .1) (a .pre .2) (g .0) _ _ (g .1) (g .2)
+returns : tie.Need-returns Inv-loop μ-loop
+returns c = going-all (c .before .loop .inv) (c .loop-test .left)
 
 pub read-frames-spec : {M : Type 1} → statement M
 read-frames-spec =
@@ -147,14 +172,21 @@ read-frames-spec =
     read-frame-requires
     enum-told
     enum-told-2
-    clear-requires
-    clear-requires-2
-    same-length
-    same-length-2
-    returns
+    add-lose-frame
+    sub-lose-frame
+    part-lose-frame-start
+    part-lose-frame-end
+    add-lose-frame-2
+    sub-lose-frame-2
+    part-lose-frame-start-2
+    part-lose-frame-end-2
+    lose-frame-requires
     add-f
     loop-less
     loop-again
-    same-length-3
-    same-length-4
-    returns-2)
+    add-f-2
+    loop-less-2
+    loop-again-2
+    same-length
+    same-length-2
+    returns)

@@ -1,6 +1,6 @@
--- `read_section` meets its contract: a wrong length is one of the `Ways` out, and `read_frames` promises the rest.
+-- `read_section` meets its contract: each way out is one of `Ways`, and `read_frames` promises the bytes and marks.
 -- Assumes nothing.
-use Rattle.section_reader.proofs.Ways.{wrong-channel, wrong-bytes, wrong-marks}
+use Rattle.section_reader.proofs.Ways.{wrong-channel, wrong-bytes, wrong-marks, all-read}
 use borrow.Author.Needs.{needs}
 use Rattle.section_reader.proofs.read_section.Statement.{statement}
 use Rattle.section_reader.proofs.read_section.Tie as tie
@@ -57,7 +57,11 @@ same-length-6 : tie.Need-same-length-6
 same-length-6 c = search needs
 
 returns-4 : tie.Need-returns-4
-returns-4 c = search needs
+returns-4 c =
+    let r = c .before .before .before .before in
+    let d = r .before .before .before in
+    let a = d .before .before .before .before .before .before .args in
+    all-read (a .channel .now) (a .bytes .now) (a .marks .now) (d .before .before .if1 .left) (d .before .if2 .left) (d .if3 .left) _ _ (r .read-frames .ensures .0) (r .read-frames .ensures .1)
 
 pub read-section-spec : {M : Type 1} → statement M
 read-section-spec =

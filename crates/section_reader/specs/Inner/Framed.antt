@@ -11,7 +11,7 @@ use Rattle.words.specs.LookUp.{Guide}
 use Rattle.words.specs.Words.{words}
 use Rattle.section_reader.specs.declared.reader.Frame.{Frame}
 use Rattle.section_reader.specs.declared.reader.Frame.the-variants.{Read, NoHeader}
-use Rattle.section_reader.specs.Reading.{headless, frameByte, frameMark}
+use Rattle.section_reader.specs.Reading.{headless, wordByte, wordMark}
 
 -- one of 98 frames of a whole Section, and room for its 33 bytes and marks
 pub record FrameWanted (channel table guide : List ℕ) (f : ℕ) (bytes marks : List ℕ) : Type 0 where
@@ -22,20 +22,20 @@ pub record FrameWanted (channel table guide : List ℕ) (f : ℕ) (bytes marks :
   pub room-bytes : length bytes ≡ 33
   pub room-marks : length marks ≡ 33
 
--- the 33 bytes of frame f, and their marks
-unfoldable pub frameBytes : List ℕ → ℕ → List ℕ
-frameBytes bits f = tabulated (frameByte bits f) 0 33
+-- the bytes of the 33 words of frame f, and their marks
+unfoldable pub wordBytes : List ℕ → ℕ → List ℕ
+wordBytes bits f = tabulated (wordByte bits f) 0 33
 
-unfoldable pub frameMarks : List ℕ → ℕ → List ℕ
-frameMarks bits f = tabulated (frameMark bits f) 0 33
+unfoldable pub wordMarks : List ℕ → ℕ → List ℕ
+wordMarks bits f = tabulated (wordMark bits f) 0 33
 
 -- the answer for a frame that has no Sync Header, or has one
 abbrev pub frameSays : Bool → Frame
 frameSays true = NoHeader
 frameSays false = Read
 
--- a frame that begins with the Sync Header leaves its bytes and marks in the buffers, and one that doesn't leaves them as they were
+-- a frame that begins with the Sync Header leaves its words' bytes and marks in the buffers, and one that doesn't leaves them as they were
 pub record FrameRead (channel : List ℕ) (f : ℕ) (bytes₀ marks₀ bytes marks : List ℕ) (r : Frame) : Type 0 where
   pub says : r ≡ frameSays (headless (unpack channel) f)
-  pub bytes-are : bytes ≡ cond (headless (unpack channel) f) bytes₀ (frameBytes (unpack channel) f)
-  pub marks-are : marks ≡ cond (headless (unpack channel) f) marks₀ (frameMarks (unpack channel) f)
+  pub bytes-are : bytes ≡ cond (headless (unpack channel) f) bytes₀ (wordBytes (unpack channel) f)
+  pub marks-are : marks ≡ cond (headless (unpack channel) f) marks₀ (wordMarks (unpack channel) f)

@@ -4,7 +4,7 @@ use mathlib.Core.Path.{_≡_, refl, sym, ap, _∙_}
 use mathlib.Core.List.{List}
 use Prim.Native.Nat.{ℕ}
 use Rattle.section_reader.specs.declared.SectionRead.{SectionRead}
-use Rattle.section_reader.specs.declared.SectionRead.the-variants.{Done, WrongIncoming, WrongOutgoing, NoHeader}
+use Rattle.section_reader.specs.declared.SectionRead.the-variants.{Done, WrongIncoming, WrongOutgoing}
 use Rattle.section_reader.specs.ReadSay.{sayRead, ReadOut, readOut, sectionRead}
 
 -- an answer is told by what it says
@@ -12,19 +12,12 @@ pub read-one : (a b : SectionRead) → sayRead a ≡ sayRead b → a ≡ b
 read-one Done Done e = refl
 read-one Done WrongIncoming e = cc
 read-one Done WrongOutgoing e = cc
-read-one Done (NoHeader g) e = cc
 read-one WrongIncoming Done e = cc
 read-one WrongIncoming WrongIncoming e = refl
 read-one WrongIncoming WrongOutgoing e = cc
-read-one WrongIncoming (NoHeader g) e = cc
 read-one WrongOutgoing Done e = cc
 read-one WrongOutgoing WrongIncoming e = cc
 read-one WrongOutgoing WrongOutgoing e = refl
-read-one WrongOutgoing (NoHeader g) e = cc
-read-one (NoHeader f) Done e = cc
-read-one (NoHeader f) WrongIncoming e = cc
-read-one (NoHeader f) WrongOutgoing e = cc
-read-one (NoHeader f) (NoHeader g) e = cc
 
 -- for the same Channel bits and buffers the promise allows one answer, one list of bytes and one of marks
 pub read-once : (channel bytes marks : List ℕ) (a b : SectionRead) (x y u v : List ℕ) → readOut (sayRead a) x u ≡ sectionRead channel bytes marks

@@ -1,9 +1,8 @@
 -- Every frame of a Section begins with the Sync Header, and every word is read as it was written.
 -- Assumes nothing.
 use mathlib.Core.Path.{_≡_, sym, ap, _∙_, subst}
-use mathlib.Core.Bool.{not}
+use mathlib.Core.Bool.{false, not}
 use mathlib.Core.List.{List, []}
-use mathlib.Core.Option.{none}
 use Prim.Native.Nat.{ℕ, zero, suc, _+_, _*_, _≤_, _<_, _^_}
 use native.Mathlib.Nat.{not-suc-le-zero, le-of-suc-le-suc}
 use native.Mathlib.Omega.{arith}
@@ -15,8 +14,7 @@ use Rattle.outcome.specs.Table.Entries.{tabulated-at}
 use Rattle.words.specs.Facts.{word-14}
 use Rattle.merging.specs.Chosen.{Written, withHeader, withTail}
 use Rattle.section_writer.specs.declared.SectionWriter.{SectionWriter}
-use Rattle.section_reader.specs.Reading.{fieldAt, firstHeadless, wordRead}
-use Rattle.section_reader.specs.Reading.Headers.{all-headed}
+use Rattle.section_reader.specs.Reading.{fieldAt, headless, wordRead}
 use Rattle.section_writer.specs.Section.{wordAt, frameWords, withWords, withFrame, withFrames, sectionAfter}
 use Rattle.section_writer.specs.WriteSay.{section}
 use Rattle.sections.specs.Stream.{atStart}
@@ -89,10 +87,8 @@ module _ (frames control : List ℕ) (hf : Bytes frames) (hc : Bytes control) wh
         (subst (λ (p : ℕ). Laid frames control (withFrames w frames control 0 98 .bits) p (0 + f)) e (all-frames 98 w 0 f h))
 
     -- every frame begins with the Sync Header
-    pub every-header : firstHeadless (section s frames control .bits) ≡ none
-    every-header =
-        all-headed (section s frames control .bits)
-        (λ f h. ap not (eq-eqb (fieldAt (section s frames control .bits) (588 * f) 24) 8392706 (in-section f h .head)))
+    pub every-header : (f : ℕ) → f < 98 → headless (section s frames control .bits) f ≡ false
+    every-header f h = ap not (eq-eqb (fieldAt (section s frames control .bits) (588 * f) 24) 8392706 (in-section f h .head))
 
     -- every word is read as it was written
     pub every-word : (f i : ℕ) → f < 98 → i < 33 → wordRead (section s frames control .bits) f i ≡ wordAt frames control f i

@@ -20,6 +20,7 @@ use Rattle.bits.specs.Binary.{Binary}
 use Rattle.section_writer.specs.declared.SectionWriter.{SectionWriter}
 use Rattle.section_reader.specs.ReadSay.{readSay, sectionRead}
 use Rattle.section_reader.specs.Reading.{byteFor, markFor, byteRead, markRead, bytesRead, marksRead}
+use Rattle.section_reader.specs.Reading.Standing.{byte-standing, mark-standing}
 use Rattle.section_writer.specs.Section.{wordAt}
 use Rattle.section_writer.specs.State.{right}
 use Rattle.section_writer.specs.WriteSay.{section, written, writeSay}
@@ -48,21 +49,23 @@ module _ (frames control : List ℕ) (hf : Bytes frames) (hc : Bytes control) wh
     unfolding bytesRead laidBytes
     bytes-back =
         tabulated-same (byteRead (section s frames control .bits)) (λ k. laidByte frames control (k / 33) (k % 33)) 3234
-        (λ k h. ap (λ (x : ℕ). byteFor (byteOf x)) (every-word frames control hf hc s (k / 33) (k % 33) (omega arith) (omega arith)) ∙ byte-back (k / 33) (k % 33))
+        (λ k h. byte-standing (section s frames control .bits) (k / 33) (every-header frames control hf hc s (k / 33) (omega arith)) (k % 33)
+        ∙ ap (λ (x : ℕ). byteFor (byteOf x)) (every-word frames control hf hc s (k / 33) (k % 33) (omega arith) (omega arith)) ∙ byte-back (k / 33) (k % 33))
 
     -- and the marks
     pub marks-back : marksRead (section s frames control .bits) ≡ laidMarks
     unfolding marksRead laidMarks
     marks-back =
         tabulated-same (markRead (section s frames control .bits)) (λ k. laidMark (k / 33) (k % 33)) 3234
-        (λ k h. ap (λ (x : ℕ). markFor (byteOf x) x (k % 33)) (every-word frames control hf hc s (k / 33) (k % 33) (omega arith) (omega arith)) ∙ mark-back (k / 33) (k % 33))
+        (λ k h. mark-standing (section s frames control .bits) (k / 33) (every-header frames control hf hc s (k / 33) (omega arith)) (k % 33)
+        ∙ ap (λ (x : ℕ). markFor (byteOf x) x (k % 33)) (every-word frames control hf hc s (k / 33) (k % 33) (omega arith) (omega arith)) ∙ mark-back (k / 33) (k % 33))
 
     -- a channel buffer that holds the Section's bits is read back whole
     pub there-and-back : (channel bytes marks : List ℕ) → length channel ≡ 7203 → unpack channel ≡ section s frames control .bits → length bytes ≡ 3234 → length marks ≡ 3234
         → sectionRead channel bytes marks ≡ wholeOf frames control
     unfolding sectionRead readSay
     there-and-back channel bytes marks l e p q =
-        rw (eq-eqb (length channel) 7203 l, eq-eqb (length bytes) 3234 p, eq-eqb (length marks) 3234 q, e, every-header frames control hf hc s, bytes-back, marks-back)
+        rw (eq-eqb (length channel) 7203 l, eq-eqb (length bytes) 3234 p, eq-eqb (length marks) 3234 q, e, bytes-back, marks-back)
 
     -- the bits of a Section are 57,624, each 0 or 1
     pub whole : unpack (pack 7203 (section s frames control .bits)) ≡ section s frames control .bits

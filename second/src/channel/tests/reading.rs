@@ -2,14 +2,6 @@
 
 use super::*;
 
-fn some_section(seed: u64) -> (Vec<u8>, Vec<u8>, Vec<u8>) {
-    let mut random = Random::new(seed);
-    let frames = random.bytes(FRAME_BYTES);
-    let control = random.bytes(CONTROL_BYTES);
-    let section = written(&mut SectionWriter::new(), &frames, &control);
-    (section, frames, control)
-}
-
 /// The first bit of a word: place 0 is that of the Control byte.
 fn bit_of(frame: usize, place: usize) -> usize {
     588 * frame + 24 + 17 * place + 3
@@ -126,24 +118,7 @@ fn refused(channel: &[u8]) -> Refusal {
     answer.unwrap_err()
 }
 
-#[test]
-fn the_first_frame_without_a_header_is_told() {
-    let mut random = Random::new(14);
-    let (section, ..) = some_section(14);
-    let mut bits = unpack(&section);
-    for frame in (0..98).rev() {
-        bits[588 * frame + random.below(24)] ^= 1;
-        assert_eq!(refused(&pack(&bits)), NoSyncHeader { frame });
-    }
-    for bit in 0..24 {
-        let mut bits = unpack(&section);
-        bits[588 * 40 + bit] ^= 1;
-        assert_eq!(refused(&pack(&bits)), NoSyncHeader { frame: 40 });
-    }
-    assert_eq!(refused(&[0; PACKED]), NoSyncHeader { frame: 0 });
-}
-
-/// Order 1, 2, 8; with two outgoing buffers each is cleared or left by its own length.
+/// Order 1, 2; with two outgoing buffers each is cleared or left by its own length.
 #[test]
 fn lengths_and_their_order() {
     let (section, ..) = some_section(15);
