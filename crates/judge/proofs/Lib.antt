@@ -1,5 +1,2 @@
--- the codewords of both parities, and the search for the first that fails
-pub mod Codewords
-pub mod Search
 -- the ways out
 pub mod Ways

@@ -17,8 +17,9 @@ use Rattle.address.specs.Address.{inRange}
 use Rattle.address.specs.declared.HeaderTime.{HeaderTime}
 use Rattle.sector.specs.Layout.{sync, bytesFrom, timeOf, modeOf, zeros}
 use Rattle.lists.specs.Same.{same}
-use Rattle.judge.specs.declared.Parity.the-variants.{P, Q}
-use Rattle.judge.specs.Judging.{failing, passing, judgingMode01, judgingMode00, byMode, judging}
+use Rattle.failing.specs.declared.Parity.the-variants.{P, Q}
+use Rattle.failing.specs.Failing.{failing}
+use Rattle.judge.specs.Judging.{passing, judgingMode01, judgingMode00, byMode, judging}
 
 -- ---- Mode 01: 11, 12, 13, 14
 

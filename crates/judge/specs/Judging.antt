@@ -1,40 +1,26 @@
 -- How a Sector is judged (document 01, Order): the first fault found is the answer.
 -- Assumes nothing.
-use mathlib.Core.Bool.{Bool, not, cond}
+use mathlib.Core.Bool.{cond}
 use mathlib.Core.List.{List, [], _∷_}
 use Prim.Native.Nat.{ℕ}
 use lib.Dec.{eqb, leb, ltb}
 use lib.ListN.{length, take, drop}
 use Rattle.outcome.specs.Say.{Say, done, refused, demand}
 use Rattle.outcome.specs.First.{firstBelow}
-use Rattle.codeword.specs.Nearest.{isCodeword}
 use Rattle.edc.specs.Bits.{bits}
 use Rattle.edc.specs.Edc.{remainder, isZero}
-use Rattle.rspc.specs.Words.{pWords, qWords, pWord, qWord}
 use Rattle.address.specs.Address.{inRange}
 use Rattle.sector.specs.Layout.{sync, bytesFrom, timeOf, modeOf, zeros}
 use Rattle.lists.specs.Same.{same}
+use Rattle.failing.specs.Failing.{wordsOf, failing}
+use Rattle.failing.specs.declared.Parity.{Parity}
+use Rattle.failing.specs.declared.Parity.the-variants.{P, Q}
 use Rattle.address.specs.declared.HeaderTime.{HeaderTime}
-use Rattle.judge.specs.declared.Parity.{Parity}
-use Rattle.judge.specs.declared.Parity.the-variants.{P, Q}
 use Rattle.judge.specs.declared.Judged.{Judged}
 use Rattle.judge.specs.declared.Judged.the-variants.{Passed, WrongIncoming, WrongSync, UnknownMode, WrongAddress, WrongEdc, WrongIntermediate, WrongP, WrongQ, WrongFiller}
 pub mod Demanded
 pub mod Exact
 pub mod Told
-
--- the codewords of P and of Q: how many, and codeword n
-abbrev pub wordsOf : Parity → ℕ
-wordsOf P = pWords
-wordsOf Q = qWords
-
-abbrev pub wordOf : Parity → List ℕ → ℕ → List ℕ
-wordOf P s n = pWord s n
-wordOf Q s n = qWord s n
-
--- whether codeword n fails
-abbrev pub failing : Parity → List ℕ → ℕ → Bool
-failing parity s n = not (isCodeword 2 (wordOf parity s n))
 
 -- a demand on each codeword: where one fails, the number comes back with that of the first that does
 abbrev pub demandEach : Parity → List ℕ → ℕ → Say → Say

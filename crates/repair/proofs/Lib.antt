@@ -1,5 +1,3 @@
--- the count of changed bytes
-pub mod Counting
 -- the candidate, the steps that lead to it, and the rules that it must keep
 pub mod Candidates
 pub mod Steps

@@ -1,10 +1,6 @@
 // Repair of a Sector (document 01, demand 3).
 ghost use mathlib.Core.Path.{_≡_};
-ghost use mathlib.Core.Bool.{cond};
-ghost use lib.Dec.{eqb};
 ghost use lib.ListN.{length};
-ghost use Prim.Native.Nat.{min};
-ghost use Rattle.codeword.specs.Code.{changes};
 ghost use Rattle.outcome.specs.Bytes.{Bytes};
 ghost use Rattle.repair.specs.Repair.{Repairs, sayOf};
 ghost use Rattle.repair.specs.Inner.Candidate.{rules, FoundFor, HandsOut};
@@ -16,34 +12,6 @@ pub enum Repaired {
     WrongIncoming,
     WrongOutgoing,
     NoSectorNear,
-}
-
-// 1 where two bytes differ, else 0.
-fn unlike(a: u8, b: u8) -> usize
-    ensures { λ r. ⌜ r ≡ cond (eqb a b) 0 1 ⌝ }
-{
-    if a == b { 0 } else { 1 }
-}
-
-// The lesser of two numbers.
-fn lesser(a: usize, b: usize) -> usize
-    ensures { λ r. ⌜ r ≡ min a b ⌝ }
-{
-    if a < b { a } else { b }
-}
-
-// In how many places two Sectors differ; where one is longer, the rest of it does not count.
-pub fn count_changes(a: &[u8], b: &[u8]) -> usize
-    ensures { λ r. ⌜ r ≡ changes (now (a .entry)) (now (b .entry)) ⌝ }
-{
-    let n = lesser(a.len(), b.len());
-    let mut count: usize = 0;
-    let mut i: usize = 0;
-    while i < n {
-        count += unlike(a[i], b[i]);
-        i += 1;
-    }
-    count
 }
 
 // Whether the rules of Mode 01 hold that no parity settles: mode, address, EDC and Intermediate field. A slice also shows that
@@ -91,7 +59,7 @@ fn hand_out(received: &[u8], s: &[u8], out: &mut [u8]) -> Repaired
     ensures { λ r. ⌜ HandsOut (now (received .entry)) (now (s .entry)) (sayOf r) (now (out .exit)) ⌝ }
 {
     outcome::copy(s, out);
-    Repaired::HandedOut(count_changes(received, s))
+    Repaired::HandedOut(changes::count_changes(received, s))
 }
 
 // Hands out the one correct Sector of Mode 01 that differs from what came in in at most one byte of each P codeword, with the count

@@ -14,8 +14,9 @@ use Rattle.outcome.specs.First.Found.{first-below}
 use Rattle.codeword.specs.Code.{Codeword}
 use Rattle.codeword.specs.Nearest.{isCodeword}
 use Rattle.codeword.specs.Code.NearOne.{code-of-test, test-of-code}
-use Rattle.judge.specs.declared.Parity.{Parity}
-use Rattle.judge.specs.Judging.{wordsOf, failing, demandEach}
+use Rattle.failing.specs.declared.Parity.{Parity}
+use Rattle.failing.specs.Failing.{wordsOf, failing}
+use Rattle.judge.specs.Judging.{demandEach}
 
 -- a demand that is passed was met
 pub demanded : (t : Bool) (n : ℕ) (rest : Say) {v : List ℕ} → demand t n rest ≡ done v → (t ≡ true) × (rest ≡ done v)

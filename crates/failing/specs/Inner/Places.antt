@@ -2,8 +2,8 @@
 -- Assumes nothing.
 use Prim.Native.Nat.{ℕ}
 use Rattle.rspc.specs.Words.{pPlace, qPlace}
-use Rattle.judge.specs.declared.Parity.{Parity}
-use Rattle.judge.specs.declared.Parity.the-variants.{P, Q}
+use Rattle.failing.specs.declared.Parity.{Parity}
+use Rattle.failing.specs.declared.Parity.the-variants.{P, Q}
 
 abbrev pub rowsOf : Parity → ℕ
 rowsOf P = 26

@@ -1,4 +1,4 @@
--- `repair::count_changes` meets its contract: the loop has counted the places that it passed (`Counting`).
+-- `changes::count_changes` meets its contract: the loop has counted the places that it passed (`Counting`).
 -- Assumes nothing.
 use Prim.Native.Nat.{_≤_, _-_}
 use mathlib.Core.Path.{_≡_, sym, _∙_}
@@ -9,9 +9,9 @@ use lib.ListN.{length, take, getD}
 use Rattle.outcome.specs.First.Found.{lt-or-le}
 use Rattle.codeword.specs.Code.{changes}
 use Rattle.codeword.specs.Code.Changes.{unlike-le}
-use Rattle.repair.proofs.Counting.{changes-none-yet, changes-more, changes-all}
-use Rattle.repair.proofs.count_changes.Statement.{statement}
-use Rattle.repair.proofs.count_changes.Tie as tie
+use Rattle.changes.proofs.Counting.{changes-none-yet, changes-more, changes-all}
+use Rattle.changes.proofs.count_changes.Statement.{statement}
+use Rattle.changes.proofs.count_changes.Tie as tie
 
 abbrev Inv-loop : tie.InvT-loop
 Inv-loop a b n count₀ i₀ count i = (i ≤ n) × (count ≤ i) × (count ≡ changes (take i a) (take i b))

@@ -1,8 +1,8 @@
--- `repair::unlike` meets its contract: the two arms are the two cases of the test.
+-- `changes::unlike` meets its contract: the two arms are the two cases of the test.
 -- Assumes nothing.
 use borrow.Author.Tests.{eq-eqb, ne-eqb}
-use Rattle.repair.proofs.unlike.Statement.{statement}
-use Rattle.repair.proofs.unlike.Tie as tie
+use Rattle.changes.proofs.unlike.Statement.{statement}
+use Rattle.changes.proofs.unlike.Tie as tie
 
 returns : tie.Need-returns
 returns c = simp (eq-eqb _ _ (c .if1 .taken))

@@ -1,20 +1,17 @@
 -- The codewords of either parity: their number, their length, and their bytes in the Sector.
 -- Assumes nothing.
 use mathlib.Core.Path.{_≡_}
-use mathlib.Core.Logic.{_⊎_, inl, inr}
 use mathlib.Core.List.{List}
-use Prim.Native.Nat.{ℕ, _/_, _%_, _≤_, _<_}
+use Prim.Native.Nat.{ℕ, _≤_, _<_}
 use native.Mathlib.Omega.{arith}
 use lib.ListN.{length, getD}
 use Rattle.outcome.specs.Bytes.{Bytes}
-use Rattle.outcome.specs.First.Found.{lt-or-le}
-use Rattle.rspc.specs.Words.{place, qNumber}
 use Rattle.rspc.specs.Words.P.{length-p, p-at, bytes-p}
-use Rattle.rspc.specs.Words.Q.{length-q, q-at, q-data, q-parity, bytes-q}
-use Rattle.judge.specs.declared.Parity.{Parity}
-use Rattle.judge.specs.declared.Parity.the-variants.{P, Q}
-use Rattle.judge.specs.Judging.{wordsOf, wordOf}
-use Rattle.judge.specs.Inner.Places.{rowsOf, placeOf}
+use Rattle.rspc.specs.Words.Q.{length-q, q-at, bytes-q}
+use Rattle.failing.specs.declared.Parity.{Parity}
+use Rattle.failing.specs.declared.Parity.the-variants.{P, Q}
+use Rattle.failing.specs.Failing.{wordsOf, wordOf}
+use Rattle.failing.specs.Inner.Places.{rowsOf, placeOf}
 
 pub words-le : (parity : Parity) → wordsOf parity ≤ 86
 words-le P = omega arith
@@ -35,11 +32,3 @@ word-bytes Q s n h = bytes-q s n h
 pub word-at : (parity : Parity) (s : List ℕ) (n m : ℕ) → m < rowsOf parity → getD (wordOf parity s n) m 0 ≡ getD s (placeOf parity n m) 0
 word-at P s n m h = p-at s n m h
 word-at Q s n m h = q-at s n m h
-
-pub place-lt : (parity : Parity) (n m : ℕ) → n < wordsOf parity → m < rowsOf parity → placeOf parity n m < 2352
-place-lt P n m h l = omega arith
-place-lt Q n m h l = go (lt-or-le m 43)
-  where
-    go : (m < 43) ⊎ (43 ≤ m) → place (n / 26) (qNumber (n % 26) m) < 2352
-    go (inl k) = omega (arith, q-data (n % 26) m k)
-    go (inr k) = omega (arith, q-parity (n % 26) m k)

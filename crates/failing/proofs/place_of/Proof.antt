@@ -1,12 +1,12 @@
--- `judge::place_of` meets its contract: each arm is a case of `placeOf`, and those of Q are the two cases of `qNumber`.
+-- `failing::place_of` meets its contract: each arm is a case of `placeOf`, and those of Q are the two cases of `qNumber`.
 -- Assumes nothing.
 use mathlib.Core.Path.{sym, ap}
 use Prim.Native.Nat.{_/_}
 use borrow.Author.Needs.{needs}
 use Rattle.rspc.specs.Words.{place}
 use Rattle.rspc.specs.Words.Q.{q-data, q-parity}
-use Rattle.judge.proofs.place_of.Statement.{statement}
-use Rattle.judge.proofs.place_of.Tie as tie
+use Rattle.failing.proofs.place_of.Statement.{statement}
+use Rattle.failing.proofs.place_of.Tie as tie
 
 enum-told : tie.Need-enum-told
 enum-told c = search needs

@@ -1,4 +1,4 @@
--- `judge::first_failing` meets its contract: the inner loop has the sums of the bytes of codeword n that it passed (`Summing`), the
+-- `failing::first_failing` meets its contract: the inner loop has the sums of the bytes of codeword n that it passed (`Summing`), the
 -- outer one that no codeword before n fails.
 -- Assumes nothing.
 use Prim.Native.Nat.{ℕ, _≤_, _<_, _-_}
@@ -8,12 +8,12 @@ use borrow.Author.Count.{below-more}
 use borrow.Author.Needs.{needs}
 use lib.ListN.{getD}
 use Rattle.outcome.specs.Bytes.{Bytes}
-use Rattle.judge.specs.Judging.{wordsOf, wordOf, failing}
-use Rattle.judge.specs.Inner.Places.{rowsOf}
-use Rattle.judge.proofs.Codewords.{words-le, rows-le, word-long, word-bytes, word-at, place-lt}
-use Rattle.judge.proofs.Search.{Summing, summing-none, summing-more, passes, fails-first, fails-second, NoneBelow, ends-at, ends-past}
-use Rattle.judge.proofs.first_failing.Statement.{statement}
-use Rattle.judge.proofs.first_failing.Tie as tie
+use Rattle.failing.specs.Failing.{wordsOf, wordOf, failing}
+use Rattle.failing.specs.Inner.Places.{rowsOf}
+use Rattle.failing.proofs.Codewords.{words-le, rows-le, word-long, word-bytes, word-at}
+use Rattle.failing.proofs.Search.{Summing, summing-none, summing-more, passes, fails-first, fails-second, NoneBelow, ends-at, ends-past}
+use Rattle.failing.proofs.first_failing.Statement.{statement}
+use Rattle.failing.proofs.first_failing.Tie as tie
 
 abbrev Inv-loop2 : tie.InvT-loop2
 Inv-loop2 parity s words rows n s0₀ s1₀ m₀ s0 s1 m = (m ≤ rowsOf parity) × Summing (wordOf parity s n) m s0 s1
@@ -61,17 +61,8 @@ place-of-requires c κs =
     let words = outer .before .before .before .words-of .ensures in
     (omega (arith, words-le parity), omega (arith, rows-le parity))
 
-shared-slice-read-b :
-    tie.Need-shared-slice-read-b Inv-loop2 μ-loop2 Inv-loop μ-loop Inv-search μ-search
-shared-slice-read-b c =
-    let inner = c .before .before .before in
-    let outer = inner .before .before in
-    let parity = outer .before .before .before .before .before .args .parity in
-    let s = outer .before .before .before .before .before .args .s .now in
-    let n = outer .loop .n in
-    let rows = outer .before .before .rows-of .ensures in
-    let words = outer .before .before .before .words-of .ensures in
-    omega (arith, c .before .place-of .ensures, place-lt parity n (inner .loop2 .m) (omega arith) (omega arith))
+byte-at-requires : tie.Need-byte-at-requires Inv-loop2 μ-loop2 Inv-loop μ-loop Inv-search μ-search
+byte-at-requires c κs = search needs
 
 times-alpha-requires :
     tie.Need-times-alpha-requires Inv-loop2 μ-loop2 Inv-loop μ-loop Inv-search μ-search
@@ -96,7 +87,7 @@ loop2-again c =
     let l : inner .loop2 .m < rowsOf parity = omega arith in (
       omega arith,
       summing-more (wordOf parity s n) (inner .loop2 .inv .1) _ (word-bytes parity s n bytes) (omega (arith, word-long parity s n))
-          (ap (λ (k : ℕ). getD s k 0) (c .before .before .place-of .ensures) ∙ sym (word-at parity s n (inner .loop2 .m) l))
+          (c .before .byte-at .ensures ∙ ap (λ (k : ℕ). getD s k 0) (c .before .before .place-of .ensures) ∙ sym (word-at parity s n (inner .loop2 .m) l))
           (c .times-alpha .ensures),
     )
 
@@ -168,7 +159,7 @@ first-failing-spec =
     loop-holds
     loop2-holds
     place-of-requires
-    shared-slice-read-b
+    byte-at-requires
     times-alpha-requires
     add-m
     loop2-less

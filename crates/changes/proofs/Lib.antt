@@ -1,0 +1,2 @@
+-- counting the places in which two lists differ
+pub mod Counting

@@ -1,0 +1,4 @@
+-- the codewords of either parity, and whether one fails
+pub mod Failing
+-- contracts of private functions
+pub mod Inner
