@@ -6,13 +6,13 @@ use mathlib.Core.List.{List, []}
 use lib.Dec.{eqb}
 use lib.ListN.{length}
 use borrow.Author.Tests.{eq-eqb, ne-eqb}
-use Rattle.outcome.specs.Say.{Say, done, refused, demand, cleared}
+use Rattle.outcome.specs.Say.{Say, done, refused, oneThenTwo, cleared}
 use Rattle.outcome.specs.Say.Refusals.{cleared-wrong}
 use Rattle.calls.specs.Step.{Step, step, stepOf}
 
 -- what a step says to a frame and a buffer: refusals 1 and 2 in this order
 abbrev pub answerTo : ℕ → ℕ → List ℕ → List ℕ → List ℕ → Say
-answerTo incoming outgoing frame old values = demand (eqb (length frame) incoming) 1 (demand (eqb (length old) outgoing) 2 (done values))
+answerTo incoming outgoing frame old values = oneThenTwo (eqb (length frame) incoming) (eqb (length old) outgoing) (done values)
 
 -- ---- its three ways
 
