@@ -1,4 +1,4 @@
--- The CIRC writer and reader (clause 17, Annex C), over whatever the two codes do: three sections of delays with C2 and C1 between them.
+-- The CIRC writer and reader (clause 17, Annex C), over whatever the two codes do: three stages of delays with C2 and C1 between them.
 -- Assumes nothing.
 use Prim.Native.Nat.{ℕ}
 use mathlib.Core.List.{List, [], _∷_, _++_}

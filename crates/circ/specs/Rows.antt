@@ -55,7 +55,7 @@ between = tabulated (λ k. 4 * k) 0 28
 unfoldable pub afterC1 : List ℕ
 afterC1 = tabulated (λ k. (k + 1) % 2) 0 32
 
--- in all; a row that a section lacks does not wait there
+-- in all; a row that a stage lacks does not wait there
 abbrev pub rowDelay : ℕ → ℕ
 rowDelay r = getD beforeC2 r 0 + getD between r 0 + getD afterC1 r 0
 

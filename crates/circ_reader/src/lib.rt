@@ -101,11 +101,11 @@ impl CircReader {
         let mut f2 = [0u8; 32];
         outcome::copy(frame, &mut f2);
         let mut c1 = circ::invert(f2);
-        lines::section(&BEFORE_C1, &mut line, 0, 16, &mut c1);
+        lines::stage(&BEFORE_C1, &mut line, 0, 16, &mut c1);
         let mut c2 = pass_c1(c1);
-        lines::section(&BETWEEN, &mut line, 16, 1512, &mut c2);
+        lines::stage(&BETWEEN, &mut line, 16, 1512, &mut c2);
         let mut rows = pass_c2(c2);
-        lines::section(&AFTER_C2, &mut line, 1528, 26, &mut rows);
+        lines::stage(&AFTER_C2, &mut line, 1528, 26, &mut rows);
         let f1 = collect(&rows);
         outcome::copy(&f1, out);
         let answer = answer_by(&rows);

@@ -8,7 +8,7 @@ use native.Mathlib.Omega.{arith}
 use lib.ListN.{replicate}
 use Rattle.codeword.specs.Code.{changes, Near}
 use Rattle.codeword.specs.Nearest.Finds.{nearest-complete}
-use Rattle.lines.specs.Back.{back-later}
+use Rattle.lines.specs.Stream.Late.{back-later}
 use Rattle.circ.specs.Chains.{metC1}
 use Rattle.circ.specs.Codes.{qOf, pOf, corrected, handedOn}
 use Rattle.circ_streams.specs.CodeLaws.{circ-coding, circ-correcting}

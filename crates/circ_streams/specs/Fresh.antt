@@ -9,8 +9,8 @@ use lib.ListN.{take}
 use Rattle.outcome.specs.Bytes.Kept.{bytes-replicate, bytes-nil}
 use Rattle.codeword.specs.Code.Distance.{sum-zeros}
 use Rattle.codeword.specs.Parity.One.{parity-one}
-use Rattle.lines.specs.Delay.{total}
-use Rattle.lines.specs.Zeros.{zeros, chain-zeros, chain-stays}
+use Rattle.lines.specs.Delay.{total, zeros}
+use Rattle.lines.specs.Chain.Zeros.{chain-zeros, chain-stays}
 use Rattle.circ.specs.Rows.{placed, collected, doubt, beforeC2, between, afterC1, readerBeforeC1, readerBetween, readerAfterC2, mask, inverted}
 use Rattle.circ.specs.Chains.{withQ, withP, writerOut, writerNext, throughC1, throughC2, readerRows, readerOut, readerDoubt, readerNext}
 use Rattle.circ.specs.Codes.{qOf, pOf, corrected, lost}

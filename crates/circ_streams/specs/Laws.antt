@@ -9,7 +9,7 @@ use Rattle.outcome.specs.Bytes.{Bytes}
 use Rattle.codeword.specs.Code.{Codeword}
 use Rattle.lines.specs.Delay.{total}
 use Rattle.lines.specs.Stream.{back}
-use Rattle.lines.specs.Back.{back-later, back-before}
+use Rattle.lines.specs.Stream.Late.{back-later, back-before}
 use Rattle.lines.specs.Chain.{chainAt}
 use Rattle.circ.specs.Rows.{rowsOfBytes, rowDelay, beforeC2, between, afterC1, readerBeforeC1, readerBetween, readerAfterC2}
 use Rattle.circ.specs.Chains.{writerAt, writerNext, written, c2Word, c1Word, readerAt, readerNext, readerOut, readerDoubt, metC2}

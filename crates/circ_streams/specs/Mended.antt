@@ -10,9 +10,9 @@ use lib.Seq.{getD-take, length-take-le, getD-append-add}
 use Rattle.outcome.specs.Bytes.{Bytes}
 use Rattle.outcome.specs.Bytes.Kept.{bytes-replicate}
 use Rattle.lines.specs.Stream.{back, outAt}
-use Rattle.lines.specs.Back.{back-same, back-all, back-none}
-use Rattle.lines.specs.Section.{section-law, length-out}
-use Rattle.lines.specs.Series.{three, late-row, gather}
+use Rattle.lines.specs.Stream.Late.{back-same, back-all, back-none}
+use Rattle.lines.specs.Stream.Rows.{row-waits, length-out}
+use Rattle.lines.specs.Stream.Series.{three, late-row, gather}
 use Rattle.circ.specs.Rows.{placed, collected, doubt, rowsOfBytes, beforeC2, between, readerBetween, readerAfterC2}
 use Rattle.circ.specs.Chains.{c2Word, c1Word, throughC1, throughC2, readerOut, readerDoubt, readerAt, metC1, metC2}
 use Rattle.circ_streams.specs.Coding.{Coding, Correcting}
@@ -75,7 +75,7 @@ module _ {C : List ℕ → Type 0} {q p fix₁ fix₂ : List ℕ → List ℕ} {
     row-U₂ : (r n : ℕ) → r < 28 → getD (U₂ n) r 0 ≡ back 0 (λ m. getD (C2 m) r 0) 109 n
     unfolding readerBetween metC2
     row-U₂ r n h =
-        section-law readerBetween (λ m. V₁ m) r n (λ m. omega (arith, length-V₁ m))
+        row-waits readerBetween (λ m. V₁ m) r n (λ m. omega (arith, length-V₁ m))
         ∙ three (λ m. getD (C2 m) r 0) (λ m. getD (C1 m) r 0) (λ m. getD (V₁ m) r 0) (getD between r 0) 1 (getD readerBetween r 0) n
         (λ m. c1-low code f r m h)
         (λ m. row-V₁ r m h)
@@ -113,7 +113,7 @@ module _ {C : List ℕ → Type 0} {q p fix₁ fix₂ : List ℕ → List ℕ} {
     byte b n h =
         let r = getD rowsOfBytes b 0 in
         let d = byte-carried b h in
-        section-law readerAfterC2 (λ m. V₂ m) r n wide₃
+        row-waits readerAfterC2 (λ m. V₂ m) r n wide₃
         ∙ three (λ m. getD (placed (f m)) r 0) (λ m. getD (C2 m) r 0) (λ m. getD (V₂ m) r 0) (getD beforeC2 r 0) 109 (getD readerAfterC2 r 0) n
         (λ m. c2-data code f r m d)
         (λ m. row-V₂ r m (carries-low r d))
@@ -123,7 +123,7 @@ module _ {C : List ℕ → Type 0} {q p fix₁ fix₂ : List ℕ → List ℕ} {
     -- the marks
     no-mark : (r n : ℕ) → ((m : ℕ) → getD (V₂ m) r 0 ≡ 0) → getD (U₃ n) r 0 ≡ 0
     no-mark r n h =
-        section-law readerAfterC2 (λ m. V₂ m) r n wide₃
+        row-waits readerAfterC2 (λ m. V₂ m) r n wide₃
         ∙ back-same 0 (λ m. getD (V₂ m) r 0) (λ m. 0) (getD readerAfterC2 r 0) n h
         ∙ back-none 0 (getD readerAfterC2 r 0) n
 

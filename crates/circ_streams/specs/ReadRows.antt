@@ -9,15 +9,15 @@ use lib.Seq.{length-take-le, getD-append-add}
 use Rattle.outcome.specs.Bytes.{Bytes}
 use Rattle.outcome.specs.Bytes.Kept.{bytes-take}
 use Rattle.lines.specs.Stream.{back, outAt}
-use Rattle.lines.specs.Back.{back-same}
-use Rattle.lines.specs.Section.{section-law, length-out, bytes-out}
+use Rattle.lines.specs.Stream.Late.{back-same}
+use Rattle.lines.specs.Stream.Rows.{row-waits, length-out, bytes-out}
 use Rattle.lines.specs.Chain.{chained}
-use Rattle.lines.specs.Chained.{chain-law}
+use Rattle.lines.specs.Chain.Streams.{chain-law}
 use Rattle.circ.specs.Rows.{either, doubt, rowsOfBytes, readerBeforeC1, readerBetween, readerAfterC2, inverted}
 use Rattle.circ.specs.Chains.{throughC1, throughC2, readerRows, readerOut, readerDoubt, readerAt, metC1, metC2}
 use Rattle.circ_streams.specs.Tables.{carries-low, byte-carried, collected-at, length-inverted, bytes-inverted}
 
--- what the steps from fresh give is what goes through the last section
+-- what the steps from fresh give is what goes through the last stage
 pub rows-read : (fix₁ fix₂ : List ℕ → List ℕ) (mark : List ℕ → ℕ) (g : ℕ → List ℕ) (n : ℕ)
     → readerRows fix₁ fix₂ mark (readerAt fix₁ fix₂ mark g n) (g n) ≡ outAt readerAfterC2 (λ m. throughC2 fix₂ mark (metC2 fix₁ g m)) n
 unfolding readerRows readerAt chained metC1 metC2
@@ -68,7 +68,7 @@ module _ (fix₁ fix₂ : List ℕ → List ℕ) (mark : List ℕ → ℕ) (same
 
   row-read : (r n : ℕ)
       → getD (readerRows fix₁ fix₂ mark (readerAt fix₁ fix₂ mark g n) (g n)) r 0 ≡ back 0 (λ m. getD (handed m) r 0) (getD readerAfterC2 r 0) n
-  row-read r n = ap (λ (t : List ℕ). getD t r 0) (rows-read fix₁ fix₂ mark g n) ∙ section-law readerAfterC2 (λ m. handed m) r n wide
+  row-read r n = ap (λ (t : List ℕ). getD t r 0) (rows-read fix₁ fix₂ mark g n) ∙ row-waits readerAfterC2 (λ m. handed m) r n wide
 
   -- F1 byte b: rows 0 to 11 are of the C2 word of this step, rows 16 to 27 of the one two steps before
   pub byte-read : (b n : ℕ) → b < 24

@@ -7,8 +7,8 @@ use native.Mathlib.Omega.{arith}
 use lib.ListN.{length, replicate}
 use Rattle.outcome.specs.Bytes.{Bytes}
 use Rattle.lines.specs.Stream.{back}
-use Rattle.lines.specs.Section.{out-same}
-use Rattle.lines.specs.Series.{series}
+use Rattle.lines.specs.Stream.Rows.{out-same}
+use Rattle.lines.specs.Stream.Series.{series}
 use Rattle.circ.specs.Rows.{afterC1, readerBeforeC1, inverted}
 use Rattle.circ.specs.Chains.{written, c1Word, readerOut, readerDoubt, readerAt, metC1}
 use Rattle.circ_streams.specs.Coding.{Coding, Correcting}

@@ -7,9 +7,9 @@ use native.Mathlib.Omega.{arith}
 use lib.ListN.{length, getD}
 use Rattle.outcome.specs.Bytes.{Bytes}
 use Rattle.lines.specs.Stream.{back, outAt}
-use Rattle.lines.specs.Section.{section-law, length-out, bytes-out}
+use Rattle.lines.specs.Stream.Rows.{row-waits, length-out, bytes-out}
 use Rattle.lines.specs.Chain.{chained}
-use Rattle.lines.specs.Chained.{chain-law}
+use Rattle.lines.specs.Chain.Streams.{chain-law}
 use Rattle.circ.specs.Rows.{placed, beforeC2, between, afterC1, inverted}
 use Rattle.circ.specs.Chains.{withQ, withP, writerOut, writerAt, written, c2Word, c1Word}
 use Rattle.circ_streams.specs.Coding.{Coding}
@@ -68,12 +68,12 @@ module _ {C : List ℕ → Type 0} {q p : List ℕ → List ℕ} (code : Coding 
   -- a row of a C2 word that carries an F1 byte
   pub c2-data : (r n : ℕ) → Carries r → getD (c2Word q p f n) r 0 ≡ back 0 (λ m. getD (placed (f m)) r 0) (getD beforeC2 r 0) n
   unfolding c2Word
-  c2-data r n d = data-row q (code .four-q) (before n) (length-before n) r d ∙ section-law beforeC2 (λ m. placed (f m)) r n wide₁
+  c2-data r n d = data-row q (code .four-q) (before n) (length-before n) r d ∙ row-waits beforeC2 (λ m. placed (f m)) r n wide₁
 
   -- a row of a C1 word that is no P byte
   pub c1-low : (r n : ℕ) → r < 28 → getD (c1Word q p f n) r 0 ≡ back 0 (λ m. getD (c2Word q p f m) r 0) (getD between r 0) n
   unfolding c1Word
-  c1-low r n h = low-row p (code .four-p) (spread n) (length-spread n) r h ∙ section-law between (λ m. c2Word q p f m) r n wide₂
+  c1-low r n h = low-row p (code .four-p) (spread n) (length-spread n) r h ∙ row-waits between (λ m. c2Word q p f m) r n wide₂
 
   -- ---- the words are codewords
 

@@ -8,9 +8,9 @@ use lib.Bits.{bitXor, xor-zero-r}
 use lib.ListN.{length, getD, List·getD-eq-default}
 use Rattle.xor.specs.Added.Places.{added-at}
 use Rattle.lines.specs.Stream.{back}
-use Rattle.lines.specs.Back.{back-same}
-use Rattle.lines.specs.Section.{section-law}
-use Rattle.lines.specs.Series.{three}
+use Rattle.lines.specs.Stream.Late.{back-same}
+use Rattle.lines.specs.Stream.Rows.{row-waits}
+use Rattle.lines.specs.Stream.Series.{three}
 use Rattle.circ.specs.Rows.{placed, rowsOfBytes, beforeC2, between, afterC1, rowDelay, mask, inverted}
 use Rattle.circ.specs.Chains.{written, c2Word, c1Word}
 use Rattle.circ_streams.specs.Coding.{Coding}
@@ -24,9 +24,9 @@ module _ {C : List ℕ → Type 0} {q p : List ℕ → List ℕ} (code : Coding 
   frame-row r n h =
       ap (λ (t : List ℕ). getD t r 0) (written-is q p f n)
       ∙ added-at (rowsWritten q p f n) mask r (omega (arith, length-rows-written code f n)) h
-      ∙ ap (λ (x : ℕ). bitXor x (getD mask r 0)) (section-law afterC1 (λ m. c1Word q p f m) r n (wide₃ code f))
+      ∙ ap (λ (x : ℕ). bitXor x (getD mask r 0)) (row-waits afterC1 (λ m. c1Word q p f m) r n (wide₃ code f))
 
-  -- a row that waits only in the sections after the one that it enters
+  -- a row that waits only in the stages after the one that it enters
   entered : (x : ℕ → ℕ) (ds : List ℕ) (r m : ℕ) → length ds ≤ r → x m ≡ back 0 x (getD ds r 0) m
   unfolding back
   entered x ds r m h = ap (λ (d : ℕ). back 0 x d m) (sym (List·getD-eq-default ds 0 h))

@@ -109,11 +109,11 @@ impl CircWriter {
     {
         let mut line = self.line;
         let mut rows = place(frame);
-        lines::section(&BEFORE_C2, &mut line, 0, 24, &mut rows);
+        lines::stage(&BEFORE_C2, &mut line, 0, 24, &mut rows);
         let mut c2 = fill_q(rows);
-        lines::section(&BETWEEN, &mut line, 24, 1512, &mut c2);
+        lines::stage(&BETWEEN, &mut line, 24, 1512, &mut c2);
         let mut c1 = fill_p(c2);
-        lines::section(&AFTER_C1, &mut line, 1536, 16, &mut c1);
+        lines::stage(&AFTER_C1, &mut line, 1536, 16, &mut c1);
         let f2 = circ::invert(c1);
         outcome::copy(&f2, out);
         CircWriter { line }

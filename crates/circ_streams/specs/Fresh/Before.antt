@@ -5,11 +5,10 @@ use mathlib.Core.Path.{_≡_, refl, ap₂, _∙_}
 use mathlib.Core.List.{List, [], _∷_}
 use Prim.Native.Nat.{ℕ, _+_, _<_}
 use native.Mathlib.Omega.{arith}
-use Rattle.lines.specs.Delay.{total}
+use Rattle.lines.specs.Delay.{total, zeros}
 use Rattle.lines.specs.Stream.{back}
-use Rattle.lines.specs.Back.{back-later, back-before}
+use Rattle.lines.specs.Stream.Late.{back-later, back-before}
 use Rattle.lines.specs.Chain.Fresh.{stays-fresh, late-store}
-use Rattle.lines.specs.Zeros.{zeros}
 use Rattle.circ.specs.Rows.{placed, beforeC2, between, afterC1, readerBeforeC1, readerBetween, readerAfterC2, mask, inverted}
 use Rattle.circ.specs.Chains.{withQ, withP, writerOut, writerNext, writerAt, throughC1, throughC2, readerOut, readerDoubt, readerNext, readerAt}
 use Rattle.circ.specs.Codes.{qOf, pOf, corrected, lost}

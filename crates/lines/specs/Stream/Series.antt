@@ -1,4 +1,4 @@
--- Sections in a row: the waits of a row add up, and where they add up to one number in each row, whole words come out so many steps later.
+-- Stages in a row: the waits of a row add up, and where they add up to one number in each row, whole words come out so many steps later.
 -- Assumes nothing.
 use mathlib.Core.Path.{_≡_, sym, ap, _∙_}
 use mathlib.Core.List.{List}
@@ -7,8 +7,8 @@ use native.Mathlib.Omega.{arith}
 use lib.ListN.{length, getD, replicate, length-replicate, getD-replicate}
 use lib.Seq.{ext-getD}
 use Rattle.lines.specs.Stream.{back, outAt}
-use Rattle.lines.specs.Back.{back-same, back-back, back-map, back-all}
-use Rattle.lines.specs.Section.{section-law, length-out}
+use Rattle.lines.specs.Stream.Late.{back-same, back-back, back-map, back-all}
+use Rattle.lines.specs.Stream.Rows.{row-waits, length-out}
 
 -- a row of three streams, each the one before it some steps later
 pub three : (x y z : ℕ → ℕ) (d e c n : ℕ) → ((m : ℕ) → y m ≡ back 0 x d m) → ((m : ℕ) → z m ≡ back 0 y e m) → back 0 z c n ≡ back 0 x (d + e + c) n
@@ -30,14 +30,14 @@ gather u w k c n hu hw row = ext-getD 0 u (back (replicate k 0) w c n) (hu ∙ s
     late : length (back (replicate k 0) w c n) ≡ k
     late = back-all (λ l. length l ≡ k) (replicate k 0) w c n (length-replicate k 0) hw
 
--- two sections whose waits add up to c in every row of the words
+-- two stages whose waits add up to c in every row of the words
 pub series : (ds es : List ℕ) (w : ℕ → List ℕ) (k c n : ℕ) → length ds ≤ k → length es ≤ k → ((m : ℕ) → length (w m) ≡ k)
     → ((r : ℕ) → r < k → getD ds r 0 + getD es r 0 ≡ c) → outAt es (outAt ds w) n ≡ back (replicate k 0) w c n
 series ds es w k c n hd he hk sum =
     gather (outAt es (outAt ds w) n) w k c n (length-out es (outAt ds w) n ∙ length-out ds w n ∙ hk n) hk
     (λ r h.
-    section-law es (outAt ds w) r n (λ m. omega (arith, hk m, length-out ds w m))
+    row-waits es (outAt ds w) r n (λ m. omega (arith, hk m, length-out ds w m))
     ∙ back-same 0 (λ m. getD (outAt ds w m) r 0) (back 0 (λ m. getD (w m) r 0) (getD ds r 0)) (getD es r 0) n
-    (λ m. section-law ds w r m (λ j. omega (arith, hk j)))
+    (λ m. row-waits ds w r m (λ j. omega (arith, hk j)))
     ∙ back-back 0 (λ m. getD (w m) r 0) (getD ds r 0) (getD es r 0) n
     ∙ ap (λ (d : ℕ). back 0 (λ m. getD (w m) r 0) d n) (sum r h))

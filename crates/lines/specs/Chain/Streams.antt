@@ -1,4 +1,4 @@
--- Step by step from a fresh store, a chain of three sections gives what its streams give.
+-- Step by step from a fresh store, a chain of three stages gives what its streams give.
 -- Assumes nothing.
 use mathlib.Core.Path.{_≡_, sym, ap, _∙_}
 use mathlib.Core.List.{List, _++_}
@@ -8,7 +8,7 @@ use lib.ListN.{length, take, drop, replicate, replicate-append-replicate}
 use lib.Seq.{take-at, drop-at, take-all, drop-drop}
 use Rattle.lines.specs.Delay.{rowsOut, total}
 use Rattle.lines.specs.Stream.{stateAt, outAt}
-use Rattle.lines.specs.Section.{length-state}
+use Rattle.lines.specs.Stream.Rows.{length-state}
 use Rattle.lines.specs.Chain.{lines₁, lines₂, lines₃, word₂, word₃, chainOut, chainNext, chainAt, chained, stream₁, stream₂}
 
 module _ (d₁ d₂ d₃ : List ℕ) (g₁ g₂ g₃ : List ℕ → List ℕ) (a b c : List ℕ) (ea : length a ≡ total d₁) (eb : length b ≡ total d₂) (ec : length c ≡ total d₃) where
@@ -65,7 +65,7 @@ module _ (d₁ d₂ d₃ : List ℕ) (g₁ g₂ g₃ : List ℕ → List ℕ) (f
     unfolding chainNext stateAt outAt
     next = rw (l₁, l₂, l₃)
 
-  -- the store is the three sections' stores
+  -- the store is the three stages' stores
   pub chain-state : (n : ℕ) → chainAt d₁ d₂ d₃ g₁ g₂ g₃ f n ≡ s₁ n ++ (s₂ n ++ s₃ n)
   unfolding chainAt stateAt
   chain-state zero =

@@ -1,68 +1,28 @@
--- Three sections run one after the other over three parts of one flat store, as straight-line code leaves it, are a step of the chain.
+-- Three stages run one after the other over three parts of one flat store, as straight-line code leaves it, are a step of the chain.
 -- Assumes nothing.
 use mathlib.Core.Path.{_≡_, sym, ap, ap₂, _∙_}
 use mathlib.Core.List.{List, _++_, append-nil, append-assoc}
-use Prim.Native.Nat.{ℕ, _+_, _≤_}
+use Prim.Native.Nat.{ℕ, _+_}
 use native.Mathlib.Nat.{zero-add}
 use native.Mathlib.Omega.{arith}
-use lib.ListN.{length, take, drop, drop-of-length-le, length-append, length-drop}
-use lib.Seq.{drop-drop, length-take-le, take-at, drop-at}
+use lib.ListN.{length, take, drop, drop-of-length-le, length-drop}
+use lib.Seq.{drop-drop}
 use Rattle.lines.specs.Delay.{rowsOut, rowsNext, total}
-use Rattle.lines.specs.Lines.{length-rows-next}
 use Rattle.lines.specs.Chain.{lines₁, lines₂, lines₃, word₂, word₃, chainOut, chainNext}
-
--- the n bytes of the store from a place on
-abbrev pub part : ℕ → ℕ → List ℕ → List ℕ
-part at n s = take n (drop at s)
-
--- the store when these have been written anew
-abbrev pub patched : ℕ → ℕ → List ℕ → List ℕ → List ℕ
-patched at n s l = take at s ++ (l ++ drop n (drop at s))
-
-pub length-part : (at n : ℕ) (s : List ℕ) → at + n ≤ length s → length (part at n s) ≡ n
-length-part at n s h = length-take-le n (drop at s) (omega (arith, length-drop at s))
-
--- the store after a section over a part of it
-abbrev pub sectioned : List ℕ → ℕ → ℕ → List ℕ → List ℕ → List ℕ
-sectioned ds at n s w = patched at n s (rowsNext ds (part at n s) w)
-
-module _ (ds : List ℕ) (at n : ℕ) (s w s' : List ℕ) (e : s' ≡ sectioned ds at n s w) (t : total ds ≡ n) (h : at + n ≤ length s) where
-  abbrev new : List ℕ
-  new = rowsNext ds (part at n s) w
-
-  length-new : length new ≡ n
-  length-new =
-      let k : length (part at n s) ≡ n = length-part at n s h in
-      length-rows-next ds (part at n s) w (omega arith) ∙ k
-
-  long : length (take at s ++ new) ≡ at + n
-  long = omega (arith, length-append (take at s) new, length-take-le at s (omega arith), length-new)
-
-  grouped : s' ≡ (take at s ++ new) ++ drop n (drop at s)
-  grouped = e ∙ sym (append-assoc (take at s) new (drop n (drop at s)))
-
-  front : take (at + n) s' ≡ take at s ++ new
-  front = ap (take (at + n)) grouped ∙ take-at (take at s ++ new) (drop n (drop at s)) (at + n) long
-
-  rest : drop (at + n) s' ≡ drop (at + n) s
-  rest = ap (drop (at + n)) grouped ∙ drop-at (take at s ++ new) (drop n (drop at s)) (at + n) long ∙ drop-drop n at s
-
-  pub length-sectioned : length s' ≡ length s
-  length-sectioned =
-      ap length grouped
-      ∙ omega (arith, length-append (take at s ++ new) (drop n (drop at s)), long, length-drop n (drop at s), length-drop at s)
+use Rattle.lines.specs.Part.{part, staged}
+use Rattle.lines.specs.Part.Around.{front, rest, length-staged}
 
 -- a is where the third part starts
 module _ (d₁ d₂ d₃ : List ℕ) (g₁ g₂ g₃ : List ℕ → List ℕ) (n₁ n₂ n₃ a : ℕ) (t₁ : total d₁ ≡ n₁) (t₂ : total d₂ ≡ n₂) (t₃ : total d₃ ≡ n₃) (ta : n₁ + n₂ ≡ a)
     (x s s₁ s₂ s₃ w₁ w₂ w₃ w₄ w₅ w₆ : List ℕ) (es : length s ≡ a + n₃)
-    (e₁ : w₁ ≡ g₁ x) (e₂ : w₂ ≡ rowsOut d₁ (part 0 n₁ s) w₁) (es₁ : s₁ ≡ sectioned d₁ 0 n₁ s w₁)
-    (e₃ : w₃ ≡ g₂ w₂) (e₄ : w₄ ≡ rowsOut d₂ (part n₁ n₂ s₁) w₃) (es₂ : s₂ ≡ sectioned d₂ n₁ n₂ s₁ w₃)
-    (e₅ : w₅ ≡ g₃ w₄) (e₆ : w₆ ≡ rowsOut d₃ (part a n₃ s₂) w₅) (es₃ : s₃ ≡ sectioned d₃ a n₃ s₂ w₅) where
+    (e₁ : w₁ ≡ g₁ x) (e₂ : w₂ ≡ rowsOut d₁ (part 0 n₁ s) w₁) (es₁ : s₁ ≡ staged d₁ 0 n₁ s w₁)
+    (e₃ : w₃ ≡ g₂ w₂) (e₄ : w₄ ≡ rowsOut d₂ (part n₁ n₂ s₁) w₃) (es₂ : s₂ ≡ staged d₂ n₁ n₂ s₁ w₃)
+    (e₅ : w₅ ≡ g₃ w₄) (e₆ : w₆ ≡ rowsOut d₃ (part a n₃ s₂) w₅) (es₃ : s₃ ≡ staged d₃ a n₃ s₂ w₅) where
   m₁ : length s₁ ≡ a + n₃
-  m₁ = length-sectioned d₁ 0 n₁ s w₁ s₁ es₁ t₁ (omega arith) ∙ es
+  m₁ = length-staged d₁ 0 n₁ s w₁ s₁ es₁ t₁ (omega arith) ∙ es
 
   m₂ : length s₂ ≡ a + n₃
-  m₂ = length-sectioned d₂ n₁ n₂ s₁ w₃ s₂ es₂ t₂ (omega (arith, m₁)) ∙ m₁
+  m₂ = length-staged d₂ n₁ n₂ s₁ w₃ s₂ es₂ t₂ (omega (arith, m₁)) ∙ m₁
 
   r₁ : drop n₁ s₁ ≡ drop n₁ s
   r₁ = rw zero-add at (rest d₁ 0 n₁ s w₁ s₁ es₁ t₁ (omega arith))

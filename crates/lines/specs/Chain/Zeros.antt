@@ -8,11 +8,8 @@ use native.Mathlib.Numerals.{add-one}
 use native.Mathlib.Omega.{arith}
 use lib.ListN.{length, take, drop, replicate, length-replicate, replicate-append-replicate}
 use lib.Seq.{take-at, drop-at, take-all, drop-drop}
-use Rattle.lines.specs.Delay.{lineOut, lineNext, rowsOut, rowsNext, total}
+use Rattle.lines.specs.Delay.{lineOut, lineNext, rowsOut, rowsNext, total, zeros}
 use Rattle.lines.specs.Chain.{lines₁, lines₂, lines₃, word₂, word₃, chainOut, chainNext}
-
-abbrev pub zeros : ℕ → List ℕ
-zeros n = replicate n 0
 
 zeros-add : (m n : ℕ) → zeros m ++ zeros n ≡ zeros (m + n)
 zeros-add m n = replicate-append-replicate m n 0
@@ -33,7 +30,7 @@ unfolding lineNext
 line-next zero = refl
 line-next (suc d) = zeros-add d 1 ∙ ap (λ (n : ℕ). zeros n) (add-one d)
 
--- a section
+-- zeros into a stage with a fresh store: zeros come out
 pub rows-zeros : (ds : List ℕ) (k : ℕ) → length ds ≤ k → rowsOut ds (zeros (total ds)) (zeros k) ≡ zeros k
 unfolding rowsOut total
 rows-zeros [] k h = refl
@@ -43,6 +40,7 @@ rows-zeros (d ∷ ds) (suc k) h =
     (ap (λ (t : List ℕ). lineOut t 0) (take-zeros d (total ds)) ∙ line-out d)
     (ap (λ (t : List ℕ). rowsOut ds t (zeros k)) (drop-zeros d (total ds)) ∙ rows-zeros ds k (le-of-suc-le-suc h))
 
+-- and its store stays fresh
 pub next-zeros : (ds : List ℕ) (k : ℕ) → length ds ≤ k → rowsNext ds (zeros (total ds)) (zeros k) ≡ zeros (total ds)
 unfolding rowsNext total
 next-zeros [] k h = refl
@@ -79,10 +77,12 @@ module _ (d₁ d₂ d₃ : List ℕ) (g₁ g₂ g₃ : List ℕ → List ℕ) (k
   w₃ : word₃ d₁ d₂ d₃ g₁ g₂ g₃ s x ≡ zeros k₃
   w₃ = ap g₃ (ap₂ (rowsOut d₂) l₂ w₂ ∙ rows-zeros d₂ k₂ h₂) ∙ e₃
 
+  -- such a chain gives zeros for x from a fresh store
   pub chain-zeros : chainOut d₁ d₂ d₃ g₁ g₂ g₃ (zeros (total d₁ + (total d₂ + total d₃))) x ≡ zeros k₃
   unfolding chainOut
   chain-zeros = ap₂ (rowsOut d₃) l₃ w₃ ∙ rows-zeros d₃ k₃ h₃
 
+  -- which stays fresh
   pub chain-stays : chainNext d₁ d₂ d₃ g₁ g₂ g₃ (zeros (total d₁ + (total d₂ + total d₃))) x ≡ zeros (total d₁ + (total d₂ + total d₃))
   unfolding chainNext
   chain-stays =

@@ -1,4 +1,4 @@
--- What a section gives over time: row r of step n is row r of the word so many steps before as the row waits, and 0 before the start.
+-- What a stage gives over time: row r of step n is row r of the word so many steps before as the row waits, and 0 before the start.
 -- Assumes nothing.
 use mathlib.Core.Path.{_≡_, refl, sym, ap, _∙_}
 use mathlib.Core.List.{List, [], _∷_, _++_}
@@ -9,9 +9,9 @@ use lib.ListN.{length, drop, getD, replicate, length-replicate, replicate-append
 use lib.Seq.{take-at, drop-at}
 use Rattle.outcome.specs.Bytes.{Bytes}
 use Rattle.lines.specs.Delay.{lineOut, lineNext, rowsOut, rowsNext, total}
-use Rattle.lines.specs.Lines.{length-next, length-rows, length-rows-next}
+use Rattle.lines.specs.Delay.Lengths.{length-next, length-rows, length-rows-next}
 use Rattle.lines.specs.Stream.{back, stateAt, outAt}
-use Rattle.lines.specs.Back.{back-same, back-all}
+use Rattle.lines.specs.Stream.Late.{back-same, back-all}
 
 -- ---- one line
 
@@ -58,7 +58,7 @@ unfolding lineAt
 line-length x d zero = length-replicate d 0
 line-length x d (suc n) = length-next (lineAt d x n) (x n) ∙ line-length x d n
 
--- ---- a section: the first row's line and the section of the others
+-- ---- a stage: the first row's line and the stage of the others
 
 abbrev hd : (ℕ → List ℕ) → ℕ → ℕ
 hd w m = getD (w m) 0 0
@@ -106,21 +106,23 @@ tail-wide : (n : ℕ) (l : List ℕ) → suc n ≤ length l → n ≤ length (dr
 tail-wide n [] h = absurd (not-suc-le-zero h)
 tail-wide n (x ∷ l) h = le-of-suc-le-suc h
 
--- the law of a section
-pub section-law : (ds : List ℕ) (w : ℕ → List ℕ) (r n : ℕ) → ((m : ℕ) → length ds ≤ length (w m))
+-- row r of what comes out is row r of the words, so many steps later as the row waits
+pub row-waits : (ds : List ℕ) (w : ℕ → List ℕ) (r n : ℕ) → ((m : ℕ) → length ds ≤ length (w m))
     → getD (outAt ds w n) r 0 ≡ back 0 (λ m. getD (w m) r 0) (getD ds r 0) n
 unfolding outAt rowsOut back
-section-law [] w r n h = refl
-section-law (d ∷ ds) w zero n h = ap (λ (t : List ℕ). getD t 0 0) (rows d ds w h n)
-section-law (d ∷ ds) w (suc r) n h =
+row-waits [] w r n h = refl
+row-waits (d ∷ ds) w zero n h = ap (λ (t : List ℕ). getD t 0 0) (rows d ds w h n)
+row-waits (d ∷ ds) w (suc r) n h =
     ap (λ (t : List ℕ). getD t (suc r) 0) (rows d ds w h n)
-    ∙ section-law ds (tl w) r n (λ m. tail-wide (length ds) (w m) (h m))
+    ∙ row-waits ds (tl w) r n (λ m. tail-wide (length ds) (w m) (h m))
     ∙ back-same 0 (λ m. getD (tl w m) r 0) (λ m. getD (w m) (suc r) 0) (getD ds r 0) n (λ m. getD-tail (w m) r)
 
+-- what comes out is as long as what goes in
 pub length-out : (ds : List ℕ) (w : ℕ → List ℕ) (n : ℕ) → length (outAt ds w n) ≡ length (w n)
 unfolding outAt
 length-out ds w n = length-rows ds (stateAt ds w n) (w n)
 
+-- the store is as long as the waits together
 pub length-state : (ds : List ℕ) (w : ℕ → List ℕ) (n : ℕ) → length (stateAt ds w n) ≡ total ds
 unfolding stateAt
 length-state ds w zero = length-replicate (total ds) 0
@@ -129,14 +131,14 @@ length-state ds w (suc n) = length-rows-next ds (stateAt ds w n) (w n) (omega (a
 -- bytes give bytes
 pub bytes-out : (ds : List ℕ) (w : ℕ → List ℕ) (n : ℕ) → ((m : ℕ) → length ds ≤ length (w m)) → ((m : ℕ) → Bytes (w m)) → Bytes (outAt ds w n)
 bytes-out ds w n h b r =
-    rw (section-law ds w r n h) (back-all (λ (x : ℕ). x < 256) 0 (λ m. getD (w m) r 0) (getD ds r 0) n (omega arith) (λ m. b m r))
+    rw (row-waits ds w r n h) (back-all (λ (x : ℕ). x < 256) 0 (λ m. getD (w m) r 0) (getD ds r 0) n (omega arith) (λ m. b m r))
 
--- equal streams go alike through a section
 state-same : (ds : List ℕ) (v w : ℕ → List ℕ) (n : ℕ) → ((m : ℕ) → v m ≡ w m) → stateAt ds v n ≡ stateAt ds w n
 unfolding stateAt
 state-same ds v w zero h = refl
 state-same ds v w (suc n) h = ap (λ (t : List ℕ). rowsNext ds t (v n)) (state-same ds v w n h) ∙ ap (rowsNext ds (stateAt ds w n)) (h n)
 
+-- equal streams go alike through a stage
 pub out-same : (ds : List ℕ) (v w : ℕ → List ℕ) (n : ℕ) → ((m : ℕ) → v m ≡ w m) → outAt ds v n ≡ outAt ds w n
 unfolding outAt
 out-same ds v w n h = ap (λ (t : List ℕ). rowsOut ds t (v n)) (state-same ds v w n h) ∙ ap (rowsOut ds (stateAt ds w n)) (h n)

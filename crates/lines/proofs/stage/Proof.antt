@@ -1,9 +1,9 @@
--- `lines::section` meets its contract: what `delay` does to the part of the store that is lent to it (`section-clamped`).
+-- `lines::stage` meets its contract: what `delay` does to the part of the store that is lent to it (`stage-clamped`).
 -- Assumes nothing.
-use Rattle.lines.proofs.Clamped.{section-clamped}
+use Rattle.lines.proofs.Clamped.{stage-clamped}
 use borrow.Author.Needs.{needs}
-use Rattle.lines.proofs.section.Statement.{statement}
-use Rattle.lines.proofs.section.Tie as tie
+use Rattle.lines.proofs.stage.Statement.{statement}
+use Rattle.lines.proofs.stage.Tie as tie
 
 smaller-requires : tie.Need-smaller-requires
 smaller-requires c κs = search needs
@@ -41,7 +41,7 @@ returns c =
     let more = delay .before .before .before in
     let start = more .before in
     let entry = start .before .before .before .before in
-    section-clamped (entry .args .store .now) (entry .args .from) (entry .args .count) (start .smaller .result) (more .smaller2 .result) (start .smaller .ensures) (more .smaller2 .ensures)
+    stage-clamped (entry .args .store .now) (entry .args .from) (entry .args .count) (start .smaller .result) (more .smaller2 .result) (start .smaller .ensures) (more .smaller2 .ensures)
     (entry .args .lens .now)
     (entry .args .word .now)
     _
@@ -49,8 +49,8 @@ returns c =
     (delay .delay .ensures .0)
     (delay .delay .ensures .1)
 
-pub section-spec : {M : Type 1} → statement M
-section-spec =
+pub stage-spec : {M : Type 1} → statement M
+stage-spec =
     tie.close
     (tie.spec
     smaller-requires
