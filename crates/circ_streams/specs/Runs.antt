@@ -8,7 +8,7 @@ use Rattle.outcome.specs.Say.{done}
 use Rattle.circ.specs.Chains.{writerAt, readerAt}
 use Rattle.circ.specs.Codes.{qOf, pOf, corrected, lost}
 use Rattle.calls.specs.Step.{step}
-use Rattle.circ.specs.Step.{right}
+use Rattle.circ.specs.Step.ByLengths.{right}
 use Rattle.circ.specs.Steps.{writes, reads}
 use Rattle.circ_streams.specs.Laws.{f2At, f1At, doubtAt, writer-on, reader-on}
 

@@ -6,7 +6,7 @@ use Rattle.circ_reader.specs.declared.ReaderAnswer.{ReaderAnswer}
 use Rattle.circ_reader.specs.declared.CircReader.{CircReader}
 use Rattle.circ_reader.specs.Answers.{readerSay}
 use Rattle.calls.specs.Step.{step}
-use Rattle.circ.specs.Step.{wrong-incoming, wrong-outgoing, right}
+use Rattle.circ.specs.Step.ByLengths.{wrong-incoming, wrong-outgoing, right}
 use borrow.Author.Needs.{needs}
 use Rattle.circ_reader.proofs.CircReader.step.Statement.{statement}
 use Rattle.circ_reader.proofs.CircReader.step.Tie as tie

@@ -6,7 +6,7 @@ use Rattle.circ_writer.specs.declared.WriterAnswer.{WriterAnswer}
 use Rattle.circ_writer.specs.declared.CircWriter.{CircWriter}
 use Rattle.circ_writer.specs.Answers.{writerSay}
 use Rattle.calls.specs.Step.{step}
-use Rattle.circ.specs.Step.{wrong-incoming, wrong-outgoing, right}
+use Rattle.circ.specs.Step.ByLengths.{wrong-incoming, wrong-outgoing, right}
 use borrow.Author.Needs.{needs}
 use Rattle.circ_writer.proofs.CircWriter.step.Statement.{statement}
 use Rattle.circ_writer.proofs.CircWriter.step.Tie as tie
