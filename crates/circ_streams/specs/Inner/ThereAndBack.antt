@@ -11,10 +11,11 @@ use Rattle.lines.specs.Stream.Rows.{out-same}
 use Rattle.lines.specs.Stream.Series.{series}
 use Rattle.circ.specs.Rows.{afterC1, readerBeforeC1, inverted}
 use Rattle.circ.specs.Chains.{written, c1Word, readerOut, readerDoubt, readerAt, metC1}
-use Rattle.circ_streams.specs.Coding.{Coding, Correcting}
-use Rattle.circ_streams.specs.Tables.{around-c1, inverted-twice}
-use Rattle.circ_streams.specs.Writing.{rowsWritten, written-is, length-c1, length-rows-written}
-use Rattle.circ_streams.specs.Mended.{lateC1, length-late, bytes-late, code-late, mended-back, mended-sure}
+use Rattle.circ_streams.specs.Inner.Coding.{Coding, Correcting}
+use Rattle.circ_streams.specs.Inner.Tables.{around-c1, inverted-twice}
+use Rattle.circ_streams.specs.Inner.WriterWords.{rowsWritten, written-is, length-c1, length-rows-written}
+use Rattle.circ_streams.specs.Inner.Mended.{lateC1, length-late, bytes-late, code-late, mended-back, mended-sure}
+use Rattle.circ_streams.specs.Streams.{roundTrip}
 
 module _ {C : List ℕ → Type 0} {q p fix₁ fix₂ : List ℕ → List ℕ} {mark : List ℕ → ℕ} (code : Coding C q p) (fix : Correcting C fix₁ fix₂ mark)
     (f : ℕ → List ℕ) (f24 : (m : ℕ) → length (f m) ≡ 24) (fb : (m : ℕ) → Bytes (f m)) where
@@ -35,7 +36,7 @@ module _ {C : List ℕ → Type 0} {q p fix₁ fix₂ : List ℕ → List ℕ} {
       ap fix₁ (met n)
       ∙ fix .keeps₁ (lateC1 q p f n) (length-late code fix f f24 fb n) (bytes-late code fix f f24 fb n) (code-late code fix f f24 fb n)
 
-  pub there-and-back : (n : ℕ) → readerOut fix₁ fix₂ mark (readerAt fix₁ fix₂ mark W n) (W n) ≡ back (replicate 24 0) f 111 n
+  pub there-and-back : (n : ℕ) → readerOut fix₁ fix₂ mark (readerAt fix₁ fix₂ mark W n) (W n) ≡ back (replicate 24 0) f roundTrip n
   there-and-back n = mended-back code fix f f24 fb W kept n
 
   pub without-doubt : (n : ℕ) → readerDoubt fix₁ fix₂ mark (readerAt fix₁ fix₂ mark W n) (W n) ≡ 0

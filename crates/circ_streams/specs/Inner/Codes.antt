@@ -15,7 +15,7 @@ use Rattle.codeword.specs.declared.Verdict.{Verdict}
 use Rattle.codeword.specs.declared.Verdict.the-variants as verdicts
 use Rattle.codeword.specs.Nearest.Finds.{nearest-code, nearest-sound, nearest-none}
 use Rattle.codeword.specs.Code.Distance.{sum-zeros}
-use Rattle.circ_streams.specs.Coding.{Coding, Correcting}
+use Rattle.circ_streams.specs.Inner.Coding.{Coding, Correcting}
 use Rattle.circ.specs.Codes.{qOf, pOf, handedOn, markOf, corrected, lost}
 use Rattle.circ.specs.Codes.Parities.{four-bytes, bytes-parity, q-parity, p-parity}
 

@@ -12,11 +12,10 @@ use Rattle.codeword.specs.Parity.One.{parity-one}
 use Rattle.lines.specs.Delay.{total, zeros}
 use Rattle.lines.specs.Chain.Zeros.{chain-zeros, chain-stays}
 use Rattle.circ.specs.Rows.{placed, collected, doubt, beforeC2, between, afterC1, readerBeforeC1, readerBetween, readerAfterC2, mask, inverted}
-use Rattle.circ.specs.Chains.{withQ, withP, writerOut, writerNext, throughC1, throughC2, readerRows, readerOut, readerDoubt, readerNext}
+use Rattle.circ.specs.Chains.{withQ, withP, writerOut, writerNext, throughC1, throughC2, readerRows, readerOut, readerDoubt, readerNext, freshWriter, freshReader}
 use Rattle.circ.specs.Codes.{qOf, pOf, corrected, lost}
 use Rattle.circ.specs.Codes.Parities.{parity-right}
-use Rattle.circ_streams.specs.CodeLaws.{circ-correcting}
-pub mod Before
+use Rattle.circ_streams.specs.Inner.Codes.{circ-correcting}
 
 -- ---- zeros are the parity of zeros
 
@@ -43,12 +42,12 @@ with-p-zeros = ap (λ (p : List ℕ). zeros 28 ++ p) p-zeros
 
 -- ---- the writer
 
-pub writer-settled : writerNext qOf pOf (zeros 1552) (zeros 24) ≡ zeros 1552
+pub writer-settled : writerNext qOf pOf freshWriter (zeros 24) ≡ freshWriter
 unfolding writerNext beforeC2 between afterC1 total
 writer-settled =
     chain-stays beforeC2 between afterC1 placed (withQ qOf) (withP pOf) 28 28 32 (omega arith) (omega arith) (omega arith) (zeros 24) refl with-q-zeros with-p-zeros
 
-pub writer-zeros : writerOut qOf pOf (zeros 1552) (zeros 24) ≡ mask
+pub writer-zeros : writerOut qOf pOf freshWriter (zeros 24) ≡ mask
 unfolding writerOut beforeC2 between afterC1 total inverted mask
 writer-zeros =
     ap inverted
@@ -71,7 +70,7 @@ mask-inverted : inverted mask ≡ zeros 32
 unfolding inverted mask
 mask-inverted = refl
 
-pub reader-settled : readerNext corrected corrected lost (zeros 1554) mask ≡ zeros 1554
+pub reader-settled : readerNext corrected corrected lost freshReader mask ≡ freshReader
 unfolding readerNext readerBeforeC1 readerBetween readerAfterC2 total
 reader-settled =
     chain-stays readerBeforeC1 readerBetween readerAfterC2 inverted (throughC1 corrected) (throughC2 corrected lost) 32 28 30 (omega arith) (omega arith) (omega arith) mask
@@ -79,7 +78,7 @@ reader-settled =
     c1-zeros
     c2-zeros
 
-rows-zero : readerRows corrected corrected lost (zeros 1554) mask ≡ zeros 30
+rows-zero : readerRows corrected corrected lost freshReader mask ≡ zeros 30
 unfolding readerRows readerBeforeC1 readerBetween readerAfterC2 total
 rows-zero =
     chain-zeros readerBeforeC1 readerBetween readerAfterC2 inverted (throughC1 corrected) (throughC2 corrected lost) 32 28 30 (omega arith) (omega arith) (omega arith) mask
@@ -87,9 +86,9 @@ rows-zero =
     c1-zeros
     c2-zeros
 
-pub reader-zeros : readerOut corrected corrected lost (zeros 1554) mask ≡ zeros 24
+pub reader-zeros : readerOut corrected corrected lost freshReader mask ≡ zeros 24
 reader-zeros = ap collected rows-zero
 
-pub reader-sure : readerDoubt corrected corrected lost (zeros 1554) mask ≡ 0
+pub reader-sure : readerDoubt corrected corrected lost freshReader mask ≡ 0
 unfolding doubt
 reader-sure = ap doubt rows-zero

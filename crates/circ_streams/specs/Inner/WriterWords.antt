@@ -12,9 +12,9 @@ use Rattle.lines.specs.Chain.{chained}
 use Rattle.lines.specs.Chain.Streams.{chain-law}
 use Rattle.circ.specs.Rows.{placed, beforeC2, between, afterC1, inverted}
 use Rattle.circ.specs.Chains.{withQ, withP, writerOut, writerAt, written, c2Word, c1Word}
-use Rattle.circ_streams.specs.Coding.{Coding}
-use Rattle.circ_streams.specs.Tables.{Carries, length-placed, bytes-placed}
-use Rattle.circ_streams.specs.Words.{length-with-q, length-with-p, data-row, low-row, bytes-with-q, bytes-with-p}
+use Rattle.circ_streams.specs.Inner.Coding.{Coding}
+use Rattle.circ_streams.specs.Inner.Tables.{Carries, length-placed, bytes-placed}
+use Rattle.circ_streams.specs.Inner.Words.{length-with-q, length-with-p, data-row, low-row, bytes-with-q, bytes-with-p}
 
 -- the F2-frames before their parity is inverted: C1 words of which the even rows come one step later
 abbrev pub rowsWritten : (q p : List ℕ → List ℕ) → (ℕ → List ℕ) → ℕ → List ℕ

@@ -11,11 +11,11 @@ use Rattle.codeword.specs.Nearest.Finds.{nearest-complete}
 use Rattle.lines.specs.Stream.Late.{back-later}
 use Rattle.circ.specs.Chains.{metC1}
 use Rattle.circ.specs.Codes.{qOf, pOf, corrected, handedOn}
-use Rattle.circ_streams.specs.CodeLaws.{circ-coding, circ-correcting}
-use Rattle.circ_streams.specs.ReadRows.{length-met-c1, bytes-met-c1}
-use Rattle.circ_streams.specs.Mended.{lateC1, length-late, bytes-late, code-late, mended-back, mended-sure}
-use Rattle.circ_streams.specs.ThereAndBack.{met}
-use Rattle.circ_streams.specs.Laws.{F1Frames, F2Frames, f2At, f1At, doubtAt}
+use Rattle.circ_streams.specs.Inner.Codes.{circ-coding, circ-correcting}
+use Rattle.circ_streams.specs.Inner.ReaderRows.{length-met-c1, bytes-met-c1}
+use Rattle.circ_streams.specs.Inner.Mended.{lateC1, length-late, bytes-late, code-late, mended-back, mended-sure}
+use Rattle.circ_streams.specs.Inner.ThereAndBack.{met}
+use Rattle.circ_streams.specs.Streams.{F1Frames, F2Frames, f2At, f1At, doubtAt, roundTrip}
 
 module _ (f : ℕ → List ℕ) (frames : F1Frames f) (g : ℕ → List ℕ) (damaged : F2Frames g)
     (close : (n : ℕ) → changes (metC1 g n) (metC1 (λ m. f2At f m) n) ≤ 1) where
@@ -32,9 +32,9 @@ module _ (f : ℕ → List ℕ) (frames : F1Frames f) (g : ℕ → List ℕ) (da
   unfolding corrected
   mended n = ap (handedOn (metC1 g n)) (nearest-complete 4 (metC1 g n) (bytes-met-c1 g (damaged .long) (damaged .bytes) n) (omega arith) (omega (arith, length-met-c1 g (damaged .long) n)) (lateC1 qOf pOf f n) (near n))
 
-  pub damaged-and-back : (n : ℕ) → f1At g (111 + n) ≡ f n
+  pub damaged-and-back : (n : ℕ) → f1At g (roundTrip + n) ≡ f n
   damaged-and-back n =
-      mended-back circ-coding circ-correcting f (frames .long) (frames .bytes) g mended (111 + n) ∙ back-later (replicate 24 0) f 111 n
+      mended-back circ-coding circ-correcting f (frames .long) (frames .bytes) g mended (roundTrip + n) ∙ back-later (replicate 24 0) f roundTrip n
 
   pub damaged-without-doubt : (n : ℕ) → doubtAt g n ≡ 0
   damaged-without-doubt n = mended-sure circ-coding circ-correcting f (frames .long) (frames .bytes) g mended n

@@ -14,7 +14,7 @@ use Rattle.outcome.specs.Bytes.{Bytes}
 use Rattle.outcome.specs.Bytes.Kept.{bytes-append, bytes-replicate}
 use Rattle.outcome.specs.Table.Entries.{below, and-left, and-right}
 use Rattle.xor.specs.Added.Places.{length-added, added-twice, bytes-added}
-use Rattle.circ.specs.Rows.{picked, firstTwelve, lastTwelve, placed, rowsOfBytes, collected, beforeC2, between, afterC1, readerBeforeC1, readerBetween, readerAfterC2, mask, inverted}
+use Rattle.circ.specs.Rows.{picked, firstTwelve, lastTwelve, placed, rowsOfBytes, collected, beforeC2, between, afterC1, readerBeforeC1, readerBetween, readerAfterC2, mask, inverted, longestWait}
 
 -- ---- what the waits of a row add up to in writer and reader
 
@@ -22,10 +22,10 @@ pub around-c1 : (r : ℕ) → r < 32 → getD afterC1 r 0 + getD readerBeforeC1 
 unfolding afterC1 readerBeforeC1
 around-c1 r h = eqb→eq (getD afterC1 r 0 + getD readerBeforeC1 r 0) 1 (below (λ r. eqb (getD afterC1 r 0 + getD readerBeforeC1 r 0) 1) 32 tt r h)
 
-pub around-between : (r : ℕ) → r < 28 → getD between r 0 + getD readerBetween r 0 ≡ 108
+pub around-between : (r : ℕ) → r < 28 → getD between r 0 + getD readerBetween r 0 ≡ longestWait
 unfolding between readerBetween
 around-between r h =
-    eqb→eq (getD between r 0 + getD readerBetween r 0) 108 (below (λ r. eqb (getD between r 0 + getD readerBetween r 0) 108) 28 tt r h)
+    eqb→eq (getD between r 0 + getD readerBetween r 0) longestWait (below (λ r. eqb (getD between r 0 + getD readerBetween r 0) longestWait) 28 tt r h)
 
 -- a row that carries an F1 byte: 0 to 11 or 16 to 27
 abbrev pub Carries : ℕ → Type 0

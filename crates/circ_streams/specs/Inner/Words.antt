@@ -10,7 +10,7 @@ use lib.Seq.{length-take-le, getD-take, getD-drop, getD-append-add}
 use Rattle.outcome.specs.Bytes.{Bytes}
 use Rattle.outcome.specs.Bytes.Kept.{bytes-append, bytes-take, bytes-drop}
 use Rattle.circ.specs.Chains.{withQ, withP}
-use Rattle.circ_streams.specs.Tables.{Carries}
+use Rattle.circ_streams.specs.Inner.Tables.{Carries}
 
 -- an element of the second of two lists in a row
 in-second : (a b : List ℕ) (i : ℕ) → length a ≤ i → getD (a ++ b) i 0 ≡ getD b (i - length a) 0

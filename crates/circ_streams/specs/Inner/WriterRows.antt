@@ -13,9 +13,9 @@ use Rattle.lines.specs.Stream.Rows.{row-waits}
 use Rattle.lines.specs.Stream.Series.{three}
 use Rattle.circ.specs.Rows.{placed, rowsOfBytes, beforeC2, between, afterC1, rowDelay, mask, inverted}
 use Rattle.circ.specs.Chains.{written, c2Word, c1Word}
-use Rattle.circ_streams.specs.Coding.{Coding}
-use Rattle.circ_streams.specs.Tables.{carries-low, byte-carried, placed-at, mask-data, mask-parity}
-use Rattle.circ_streams.specs.Writing.{rowsWritten, written-is, length-rows-written, wide₃, c2-data, c1-low}
+use Rattle.circ_streams.specs.Inner.Coding.{Coding}
+use Rattle.circ_streams.specs.Inner.Tables.{carries-low, byte-carried, placed-at, mask-data, mask-parity}
+use Rattle.circ_streams.specs.Inner.WriterWords.{rowsWritten, written-is, length-rows-written, wide₃, c2-data, c1-low}
 
 module _ {C : List ℕ → Type 0} {q p : List ℕ → List ℕ} (code : Coding C q p) (f : ℕ → List ℕ) where
   -- row r of the F2-frame of step n

@@ -10,15 +10,15 @@ use Rattle.lines.specs.Stream.{back}
 use Rattle.lines.specs.Stream.Late.{back-later, back-before}
 use Rattle.lines.specs.Chain.Fresh.{stays-fresh, late-store}
 use Rattle.circ.specs.Rows.{placed, beforeC2, between, afterC1, readerBeforeC1, readerBetween, readerAfterC2, mask, inverted}
-use Rattle.circ.specs.Chains.{withQ, withP, writerOut, writerNext, writerAt, throughC1, throughC2, readerOut, readerDoubt, readerNext, readerAt}
+use Rattle.circ.specs.Chains.{withQ, withP, writerOut, writerNext, writerAt, throughC1, throughC2, readerOut, readerDoubt, readerNext, readerAt, freshWriter, freshReader}
 use Rattle.circ.specs.Codes.{qOf, pOf, corrected, lost}
-use Rattle.circ_streams.specs.Laws.{f2At, f1At, doubtAt}
-use Rattle.circ_streams.specs.Fresh.{writer-settled, writer-zeros, reader-settled, reader-zeros, reader-sure}
+use Rattle.circ_streams.specs.Streams.{f2At, f1At, doubtAt}
+use Rattle.circ_streams.specs.Inner.Settled.{writer-settled, writer-zeros, reader-settled, reader-zeros, reader-sure}
 
 -- ---- the writer
 
 -- as long as zero F1-frames go in, its store stays that of `new()`
-stays-new : (f : ℕ → List ℕ) (n : ℕ) → ((m : ℕ) → m < n → f m ≡ zeros 24) → writerAt qOf pOf f n ≡ zeros 1552
+stays-new : (f : ℕ → List ℕ) (n : ℕ) → ((m : ℕ) → m < n → f m ≡ zeros 24) → writerAt qOf pOf f n ≡ freshWriter
 unfolding writerAt writerNext beforeC2 between afterC1 total
 stays-new f n h = stays-fresh beforeC2 between afterC1 placed (withQ qOf) (withP pOf) (zeros 24) writer-settled f n h
 
@@ -59,7 +59,7 @@ module _ (g : ℕ → List ℕ) (k : ℕ) where
     ap₂ (readerDoubt corrected corrected lost) (reader-state-late n) (back-later mask g k n),
   )
 
-  stays-new-reader : (n : ℕ) → n < k → readerAt corrected corrected lost (back mask g k) n ≡ zeros 1554
+  stays-new-reader : (n : ℕ) → n < k → readerAt corrected corrected lost (back mask g k) n ≡ freshReader
   unfolding readerAt readerNext readerBeforeC1 readerBetween readerAfterC2 total
   stays-new-reader n h =
       stays-fresh readerBeforeC1 readerBetween readerAfterC2 inverted (throughC1 corrected) (throughC2 corrected lost) mask reader-settled (back mask g k) n

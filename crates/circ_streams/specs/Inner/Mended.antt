@@ -15,10 +15,15 @@ use Rattle.lines.specs.Stream.Rows.{row-waits, length-out}
 use Rattle.lines.specs.Stream.Series.{three, late-row, gather}
 use Rattle.circ.specs.Rows.{placed, collected, doubt, rowsOfBytes, beforeC2, between, readerBetween, readerAfterC2}
 use Rattle.circ.specs.Chains.{c2Word, c1Word, throughC1, throughC2, readerOut, readerDoubt, readerAt, metC1, metC2}
-use Rattle.circ_streams.specs.Coding.{Coding, Correcting}
-use Rattle.circ_streams.specs.ReadRows.{rows-read}
-use Rattle.circ_streams.specs.Tables.{carries-low, byte-carried, around-between, around-c2, collected-at, length-collected, placed-at}
-use Rattle.circ_streams.specs.Writing.{length-c2, length-c1, c2-data, c1-low, bytes-c2, bytes-c1, c2-codeword, c1-codeword}
+use Rattle.circ_streams.specs.Inner.Coding.{Coding, Correcting}
+use Rattle.circ_streams.specs.Inner.ReaderRows.{rows-read}
+use Rattle.circ_streams.specs.Inner.Tables.{carries-low, byte-carried, around-between, around-c2, collected-at, length-collected, placed-at}
+use Rattle.circ_streams.specs.Inner.WriterWords.{length-c2, length-c1, c2-data, c1-low, bytes-c2, bytes-c1, c2-codeword, c1-codeword}
+use Rattle.circ_streams.specs.Streams.{roundTrip}
+
+-- the C2 words come back 1 + 108 steps later
+abbrev c2Late : ℕ
+c2Late = 109
 
 -- the writer's C1 words, one step later
 abbrev pub lateC1 : (q p : List ℕ → List ℕ) → (ℕ → List ℕ) → ℕ → List ℕ
@@ -67,12 +72,12 @@ module _ {C : List ℕ → Type 0} {q p fix₁ fix₂ : List ℕ → List ℕ} {
         ∙ ap (λ (t : List ℕ). getD t r 0) (right n)
         ∙ late-row 32 1 r n C1 (omega arith)
 
-    -- the C2 words come 109 steps later
+    -- the C2 words
     length-U₂ : (n : ℕ) → length (U₂ n) ≡ 28
     unfolding metC2
     length-U₂ n = length-out readerBetween (λ m. V₁ m) n ∙ length-V₁ n
 
-    row-U₂ : (r n : ℕ) → r < 28 → getD (U₂ n) r 0 ≡ back 0 (λ m. getD (C2 m) r 0) 109 n
+    row-U₂ : (r n : ℕ) → r < 28 → getD (U₂ n) r 0 ≡ back 0 (λ m. getD (C2 m) r 0) c2Late n
     unfolding readerBetween metC2
     row-U₂ r n h =
         row-waits readerBetween (λ m. V₁ m) r n (λ m. omega (arith, length-V₁ m))
@@ -81,14 +86,14 @@ module _ {C : List ℕ → Type 0} {q p fix₁ fix₂ : List ℕ → List ℕ} {
         (λ m. row-V₁ r m h)
         ∙ ap (λ (d : ℕ). back 0 (λ m. getD (C2 m) r 0) d n) (omega (arith, around-between r h))
 
-    is-U₂ : (n : ℕ) → U₂ n ≡ back (replicate 28 0) C2 109 n
-    is-U₂ n = gather (U₂ n) C2 28 109 n (length-U₂ n) (length-c2 code f) (λ r h. row-U₂ r n h)
+    is-U₂ : (n : ℕ) → U₂ n ≡ back (replicate 28 0) C2 c2Late n
+    is-U₂ n = gather (U₂ n) C2 28 c2Late n (length-U₂ n) (length-c2 code f) (λ r h. row-U₂ r n h)
 
     code-U₂ : (n : ℕ) → C (U₂ n)
-    code-U₂ n = subst C (sym (is-U₂ n)) (back-all C (replicate 28 0) C2 109 n (fix .zeros 28) (c2-codeword code f fb))
+    code-U₂ n = subst C (sym (is-U₂ n)) (back-all C (replicate 28 0) C2 c2Late n (fix .zeros 28) (c2-codeword code f fb))
 
     bytes-U₂ : (n : ℕ) → Bytes (U₂ n)
-    bytes-U₂ n = subst (λ (w : List ℕ). Bytes w) (sym (is-U₂ n)) (back-all (λ w. Bytes w) (replicate 28 0) C2 109 n (bytes-replicate 28 0 (omega arith)) (bytes-c2 code f fb))
+    bytes-U₂ n = subst (λ (w : List ℕ). Bytes w) (sym (is-U₂ n)) (back-all (λ w. Bytes w) (replicate 28 0) C2 c2Late n (bytes-replicate 28 0 (omega arith)) (bytes-c2 code f fb))
 
     is-V₂ : (n : ℕ) → V₂ n ≡ U₂ n ++ (0 ∷ 0 ∷ [])
     unfolding throughC2
@@ -105,20 +110,20 @@ module _ {C : List ℕ → Type 0} {q p fix₁ fix₂ : List ℕ → List ℕ} {
     wide₃ n = omega (arith, length-V₂ n)
 
     -- an F1 byte
-    row-V₂ : (r n : ℕ) → r < 28 → getD (V₂ n) r 0 ≡ back 0 (λ m. getD (C2 m) r 0) 109 n
+    row-V₂ : (r n : ℕ) → r < 28 → getD (V₂ n) r 0 ≡ back 0 (λ m. getD (C2 m) r 0) c2Late n
     row-V₂ r n h =
         ap (λ (t : List ℕ). getD t r 0) (is-V₂ n) ∙ List·getD-append (U₂ n) (0 ∷ 0 ∷ []) 0 r (omega (arith, length-U₂ n)) ∙ row-U₂ r n h
 
-    byte : (b n : ℕ) → b < 24 → getD (U₃ n) (getD rowsOfBytes b 0) 0 ≡ back 0 (λ m. getD (f m) b 0) 111 n
+    byte : (b n : ℕ) → b < 24 → getD (U₃ n) (getD rowsOfBytes b 0) 0 ≡ back 0 (λ m. getD (f m) b 0) roundTrip n
     byte b n h =
         let r = getD rowsOfBytes b 0 in
         let d = byte-carried b h in
         row-waits readerAfterC2 (λ m. V₂ m) r n wide₃
-        ∙ three (λ m. getD (placed (f m)) r 0) (λ m. getD (C2 m) r 0) (λ m. getD (V₂ m) r 0) (getD beforeC2 r 0) 109 (getD readerAfterC2 r 0) n
+        ∙ three (λ m. getD (placed (f m)) r 0) (λ m. getD (C2 m) r 0) (λ m. getD (V₂ m) r 0) (getD beforeC2 r 0) c2Late (getD readerAfterC2 r 0) n
         (λ m. c2-data code f r m d)
         (λ m. row-V₂ r m (carries-low r d))
         ∙ ap (λ (k : ℕ). back 0 (λ m. getD (placed (f m)) r 0) k n) (omega (arith, around-c2 b h))
-        ∙ back-same 0 (λ m. getD (placed (f m)) r 0) (λ m. getD (f m) b 0) 111 n (λ m. placed-at (f m) b (f24 m) h)
+        ∙ back-same 0 (λ m. getD (placed (f m)) r 0) (λ m. getD (f m) b 0) roundTrip n (λ m. placed-at (f m) b (f24 m) h)
 
     -- the marks
     no-mark : (r n : ℕ) → ((m : ℕ) → getD (V₂ m) r 0 ≡ 0) → getD (U₃ n) r 0 ≡ 0
@@ -134,10 +139,10 @@ module _ {C : List ℕ → Type 0} {q p fix₁ fix₂ : List ℕ → List ℕ} {
         ∙ getD-append-add (U₂ m) (0 ∷ 0 ∷ []) i 0
 
     -- the frame of 111 steps before, zeros before the start
-    pub mended-back : (n : ℕ) → readerOut fix₁ fix₂ mark (readerAt fix₁ fix₂ mark g n) (g n) ≡ back (replicate 24 0) f 111 n
+    pub mended-back : (n : ℕ) → readerOut fix₁ fix₂ mark (readerAt fix₁ fix₂ mark g n) (g n) ≡ back (replicate 24 0) f roundTrip n
     mended-back n =
         ap collected (rows-read fix₁ fix₂ mark g n)
-        ∙ gather (collected (U₃ n)) f 24 111 n (length-collected (U₃ n)) f24 (λ b h. collected-at (U₃ n) b h ∙ byte b n h)
+        ∙ gather (collected (U₃ n)) f 24 roundTrip n (length-collected (U₃ n)) f24 (λ b h. collected-at (U₃ n) b h ∙ byte b n h)
 
     -- without doubt
     pub mended-sure : (n : ℕ) → readerDoubt fix₁ fix₂ mark (readerAt fix₁ fix₂ mark g n) (g n) ≡ 0

@@ -15,7 +15,7 @@ use Rattle.lines.specs.Chain.{chained}
 use Rattle.lines.specs.Chain.Streams.{chain-law}
 use Rattle.circ.specs.Rows.{either, doubt, rowsOfBytes, readerBeforeC1, readerBetween, readerAfterC2, inverted}
 use Rattle.circ.specs.Chains.{throughC1, throughC2, readerRows, readerOut, readerDoubt, readerAt, metC1, metC2}
-use Rattle.circ_streams.specs.Tables.{carries-low, byte-carried, collected-at, length-inverted, bytes-inverted}
+use Rattle.circ_streams.specs.Inner.Tables.{carries-low, byte-carried, collected-at, length-inverted, bytes-inverted}
 
 -- what the steps from fresh give is what goes through the last stage
 pub rows-read : (fix₁ fix₂ : List ℕ → List ℕ) (mark : List ℕ → ℕ) (g : ℕ → List ℕ) (n : ℕ)
