@@ -17,29 +17,31 @@ use Rattle.told.specs.Told.One.{told-one}
 
 module _ {x y : ℕ} {v w : List ℕ} where
   -- verdicts, and judging
-  pub said-once : (n : ℕ) (o : Say) → Told n (λ say. say ≡ o) x v → Told n (λ say. say ≡ o) y w → (x ≡ y) × (v ≡ w)
-  said-once n o p q = let same = told-one {Same = n ≡ n} (λ a b e f. (e ∙ sym f, refl)) p q in (same .0, same .1)
+  pub said-one : (n : ℕ) (o : Say) → Told n (λ say. say ≡ o) x v → Told n (λ say. say ≡ o) y w → (x ≡ y) × (v ≡ w)
+  said-one n o p q = let same = told-one {Same = n ≡ n} (λ a b e f. (e ∙ sym f, refl)) p q in (same .0, same .1)
 
   -- scrambling, cutting, joining
-  pub left-once : (o : Outcome) (s t : List ℕ) → Told 0 (λ say. outcome say s ≡ o) x v → Told 0 (λ say. outcome say t ≡ o) y w → (x ≡ y) × (v ≡ w) × (s ≡ t)
-  left-once o s t = told-one (λ a b e f. (ap (λ (z : Outcome). z .say) (e ∙ sym f), ap (λ (z : Outcome). z .out) (e ∙ sym f)))
+  pub left-one : (o : Outcome) (s t : List ℕ) → Told 0 (λ say. outcome say s ≡ o) x v → Told 0 (λ say. outcome say t ≡ o) y w → (x ≡ y) × (v ≡ w) × (s ≡ t)
+  left-one o s t = told-one (λ a b e f. (ap (λ (z : Outcome). z .say) (e ∙ sym f), ap (λ (z : Outcome). z .out) (e ∙ sym f)))
 
-  pub written-once : (mode : ℕ) (time : HeaderTime) (user old s t : List ℕ) → Told 0 (λ say. Writes mode time user old say s) x v
+  -- writing a Sector
+  pub written-one : (mode : ℕ) (time : HeaderTime) (user old s t : List ℕ) → Told 0 (λ say. Writes mode time user old say s) x v
       → Told 0 (λ say. Writes mode time user old say t) y w → (x ≡ y) × (v ≡ w) × (s ≡ t)
-  written-once mode time user old s t = told-one (λ a b p q. write-one mode time user old p q)
+  written-one mode time user old s t = told-one (λ a b p q. write-one mode time user old p q)
 
-  pub repaired-once : (received old s t : List ℕ) → Told 1 (λ say. Repairs received old say s) x v → Told 1 (λ say. Repairs received old say t) y w
+  -- repair, with the number of bytes changed
+  pub repaired-one : (received old s t : List ℕ) → Told 1 (λ say. Repairs received old say s) x v → Told 1 (λ say. Repairs received old say t) y w
       → (x ≡ y) × (v ≡ w) × (s ≡ t)
-  repaired-once received old s t = told-one (λ a b p q. repair-one received old p q)
+  repaired-one received old s t = told-one (λ a b p q. repair-one received old p q)
 
   -- writing a Section, with the state after it
-  pub step-once : {S : Type 0} (o : Step S) (m n : S) (s t : List ℕ) → Told 0 (λ say. step say m s ≡ o) x v → Told 0 (λ say. step say n t ≡ o) y w
+  pub step-one : {S : Type 0} (o : Step S) (m n : S) (s t : List ℕ) → Told 0 (λ say. step say m s ≡ o) x v → Told 0 (λ say. step say n t ≡ o) y w
       → (x ≡ y) × (v ≡ w) × ((m ≡ n) × (s ≡ t))
-  step-once {S} o m n s t =
+  step-one {S} o m n s t =
       told-one (λ a b e f. (ap (λ (z : Step S). z .say) (e ∙ sym f), (ap (λ (z : Step S). z .next) (e ∙ sym f), ap (λ (z : Step S). z .out) (e ∙ sym f))))
 
   -- reading a Section, bytes and marks
-  pub read-once : (o : ReadOut) (s t m n : List ℕ) → Told 0 (λ say. readOut say s m ≡ o) x v → Told 0 (λ say. readOut say t n ≡ o) y w
+  pub read-one : (o : ReadOut) (s t m n : List ℕ) → Told 0 (λ say. readOut say s m ≡ o) x v → Told 0 (λ say. readOut say t n ≡ o) y w
       → (x ≡ y) × (v ≡ w) × ((s ≡ t) × (m ≡ n))
-  read-once o s t m n =
+  read-one o s t m n =
       told-one (λ a b e f. (ap (λ (z : ReadOut). z .say) (e ∙ sym f), (ap (λ (z : ReadOut). z .bytes) (e ∙ sym f), ap (λ (z : ReadOut). z .marks) (e ∙ sym f))))
