@@ -1,8 +1,8 @@
--- The CIRC writer and reader (clause 17, Annex C), over whatever the two codes do: three sections of delays with C2 and C1 between them.
+-- The CIRC writer and reader (clause 17, Annex C), over whatever the two codes do: three stages of delays with C2 and C1 between them.
 -- Assumes nothing.
 use Prim.Native.Nat.{ℕ}
 use mathlib.Core.List.{List, [], _∷_, _++_}
-use lib.ListN.{take, drop}
+use lib.ListN.{take, drop, replicate}
 use Rattle.lines.specs.Stream.{outAt}
 use Rattle.lines.specs.Chain.{chainOut, chainNext, chainAt}
 use Rattle.circ.specs.Rows.{placed, collected, doubt, beforeC2, between, afterC1, readerBeforeC1, readerBetween, readerAfterC2, inverted}
@@ -14,6 +14,10 @@ withQ q w = take 12 w ++ (q w ++ drop 16 w)
 -- C1 fills rows 28 to 31 of its 32, p gives these four bytes; the Q bytes enter it uninverted
 unfoldable pub withP : (List ℕ → List ℕ) → List ℕ → List ℕ
 withP p w = w ++ p w
+
+-- the store of a fresh writer: 24 bytes wait before C2, 1,512 between C2 and C1, 16 after C1
+abbrev pub freshWriter : List ℕ
+freshWriter = replicate 1552 0
 
 module _ (q p : List ℕ → List ℕ) where
   -- the F2-frame that a writer with the store s makes of an F1-frame: all eight parity bytes leave inverted
@@ -53,6 +57,10 @@ metC1 g n = outAt readerBeforeC1 (λ m. inverted (g m)) n
 
 unfoldable pub metC2 : (List ℕ → List ℕ) → (ℕ → List ℕ) → ℕ → List ℕ
 metC2 fix₁ g n = outAt readerBetween (λ m. throughC1 fix₁ (metC1 g m)) n
+
+-- the store of a fresh reader: 16 bytes wait before C1, 1,512 between C1 and C2, 24 bytes and two marks after C2
+abbrev pub freshReader : List ℕ
+freshReader = replicate 1554 0
 
 module _ (fix₁ fix₂ : List ℕ → List ℕ) (mark : List ℕ → ℕ) where
   -- the rows that a reader with the store s gives for an F2-frame

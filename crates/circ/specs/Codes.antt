@@ -21,7 +21,7 @@ bytes-as [] i = omega arith
 bytes-as (x ∷ w) zero = omega arith
 bytes-as (x ∷ w) (suc i) = bytes-as w i
 
--- the parity between a and b: the four bytes that make a codeword there. There is one choice of them (`parity-unique`).
+-- the parity between a and b: the four bytes that make a codeword there. There is one choice of them (`parity-one`).
 parity : (a b : List ℕ) → (p : List ℕ) × Parity 4 p (asBytes a ++ (p ++ asBytes b))
 parity a b = four-exist (asBytes a) (asBytes b) (bytes-as a) (bytes-as b)
 

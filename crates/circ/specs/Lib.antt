@@ -1,6 +1,9 @@
+-- clause 17, Annex C, figure C.4
 pub mod Rows
 pub mod Chains
-pub mod Marks
+-- Annex C.7
 pub mod Codes
+pub mod Marks
+-- a step, with document 01's refusals
 pub mod Step
 pub mod Steps

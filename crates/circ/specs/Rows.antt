@@ -55,11 +55,15 @@ between = tabulated (λ k. 4 * k) 0 28
 unfoldable pub afterC1 : List ℕ
 afterC1 = tabulated (λ k. (k + 1) % 2) 0 32
 
--- in all; a row that a section lacks does not wait there
+-- in all; a row that a stage lacks does not wait there
 abbrev pub rowDelay : ℕ → ℕ
 rowDelay r = getD beforeC2 r 0 + getD between r 0 + getD afterC1 r 0
 
 -- ---- and in the reader: what the writer's waits leave to 1, 108 and 2
+
+-- between C2 and C1 the last row waits longest in the writer, and the first row in the reader
+abbrev pub longestWait : ℕ
+longestWait = 108
 
 -- before C1: odd rows wait one frame
 unfoldable pub readerBeforeC1 : List ℕ
@@ -67,7 +71,7 @@ readerBeforeC1 = tabulated (λ k. k % 2) 0 32
 
 -- between C1 and C2: row k waits 108 - 4k frames
 unfoldable pub readerBetween : List ℕ
-readerBetween = tabulated (λ k. 108 - 4 * k) 0 28
+readerBetween = tabulated (λ k. longestWait - 4 * k) 0 28
 
 -- after C2: rows 16 to 27 wait two frames. Rows 28 and 29 carry the word's mark, now and two frames later.
 unfoldable pub readerAfterC2 : List ℕ

@@ -2,13 +2,14 @@
 ghost use mathlib.Core.Path.{_≡_};
 ghost use mathlib.Core.List.{[], _∷_};
 ghost use Prim.Native.Nat.{_≤_};
-ghost use lib.ListN.{length, replicate};
+ghost use lib.ListN.{length};
 ghost use Rattle.outcome.specs.Say.{done};
 ghost use Rattle.circ.specs.Rows.{collected, doubt};
-ghost use Rattle.circ_reader.specs.Answers.{readerSay};
+ghost use Rattle.circ.specs.Chains.{freshReader};
+ghost use Rattle.circ_reader.specs.Answers.{sayOf};
 ghost use Rattle.calls.specs.Step.{step};
 ghost use Rattle.circ.specs.Steps.{reads};
-ghost use Rattle.circ_reader.specs.Reading.{ReaderGone};
+ghost use Rattle.circ_reader.specs.Inner.Reading.{ReaderGone};
 
 mod codes;
 mod waits;
@@ -73,7 +74,7 @@ fn collect(rows: &[u8]) -> [u8; 24]
 // Whether either of the two marks is set.
 fn answer_by(rows: &[u8]) -> ReaderAnswer
     requires { ⌜ length (now rows) ≡ 30 ⌝ }
-    ensures { λ r. ⌜ readerSay r ≡ done (doubt (now (rows .entry)) ∷ []) ⌝ }
+    ensures { λ r. ⌜ sayOf r ≡ done (doubt (now (rows .entry)) ∷ []) ⌝ }
 {
     if rows[28] != 0 {
         return ReaderAnswer::InDoubt;
@@ -87,7 +88,7 @@ fn answer_by(rows: &[u8]) -> ReaderAnswer
 impl CircReader {
     // As if the F2-frames of endless zero F1-frames had gone before.
     pub fn new() -> Self
-        ensures { λ r. ⌜ r .line ≡ replicate 1554 0 ⌝ }
+        ensures { λ r. ⌜ r .line ≡ freshReader ⌝ }
     {
         CircReader { line: [0u8; 1554] }
     }
@@ -95,17 +96,17 @@ impl CircReader {
     // The step where both lengths are right.
     fn go(self, frame: &[u8], out: &mut [u8]) -> ReaderStep
         requires { ⌜ (length (now frame) ≡ 32) × (length (now out) ≡ 24) ⌝ }
-        ensures { λ r. ⌜ ReaderGone (self .line) (now (frame .entry)) (r .next .line) (readerSay (r .answer)) (now (out .exit)) ⌝ }
+        ensures { λ r. ⌜ ReaderGone (self .line) (now (frame .entry)) (r .next .line) (sayOf (r .answer)) (now (out .exit)) ⌝ }
     {
         let mut line = self.line;
         let mut f2 = [0u8; 32];
         outcome::copy(frame, &mut f2);
         let mut c1 = circ::invert(f2);
-        lines::section(&BEFORE_C1, &mut line, 0, 16, &mut c1);
+        lines::stage(&BEFORE_C1, &mut line, 0, 16, &mut c1);
         let mut c2 = pass_c1(c1);
-        lines::section(&BETWEEN, &mut line, 16, 1512, &mut c2);
+        lines::stage(&BETWEEN, &mut line, 16, 1512, &mut c2);
         let mut rows = pass_c2(c2);
-        lines::section(&AFTER_C2, &mut line, 1528, 26, &mut rows);
+        lines::stage(&AFTER_C2, &mut line, 1528, 26, &mut rows);
         let f1 = collect(&rows);
         outcome::copy(&f1, out);
         let answer = answer_by(&rows);
@@ -124,7 +125,7 @@ impl CircReader {
 
     // An F2-frame of 32 bytes in, an F1-frame of 24 out, sure or in doubt.
     pub fn step(self, frame: &[u8], out: &mut [u8]) -> ReaderStep
-        ensures { λ r. ⌜ step (readerSay (r .answer)) (r .next .line) (now (out .exit)) ≡ reads (self .line) (now (frame .entry)) (now (out .entry)) ⌝ }
+        ensures { λ r. ⌜ step (sayOf (r .answer)) (r .next .line) (now (out .exit)) ≡ reads (self .line) (now (frame .entry)) (now (out .entry)) ⌝ }
     {
         if frame.len() != 32 {
             outcome::wipe(out, 24);

@@ -7,12 +7,13 @@ use Prim.Native.Nat.{ℕ}
 use lib.ListN.{getD}
 use Rattle.outcome.specs.Say.{Say}
 use Rattle.calls.specs.Step.{Step, step}
-use Rattle.circ_writer.specs.Answers.{writerSay}
+use Rattle.circ_writer.specs.Answers.{sayOf}
 use Rattle.circ_writer.specs.declared.WriterAnswer.{WriterAnswer}
 use Rattle.circ_writer.specs.declared.WriterAnswer.the-variants.{Written, WrongIncoming, WrongOutgoing}
 use Rattle.told.specs.Told.{numberOf, valuesOf}
 use Rattle.circ_runs.specs.Runs.{Call, twoBytes}
-use Rattle.circ_runs.specs.Coders.{writing, reading, coding, oneOf, Leaves}
+use Rattle.circ_runs.specs.Coders.{writing, reading}
+use Rattle.circ_runs.specs.Inner.Coding.{coding, oneOf, Leaves}
 
 pub leaves-all : (does : List ℕ → Call → Step (List ℕ)) (state : List ℕ) (c : Call) (say : Say) (next answer out : List ℕ) (number value : ℕ) → step say next out ≡ does state c → answer ≡ number ∷ value ∷ []
     → number ≡ numberOf say → value ≡ getD (valuesOf say) 0 0 → Leaves does state c next answer out
@@ -24,7 +25,7 @@ leaves-all does state c say next answer out number value e p n v =
     }
 
 -- no value comes with what the writer says
-pub no-value : (a : WriterAnswer) → 0 ≡ getD (valuesOf (writerSay a)) 0 0
+pub no-value : (a : WriterAnswer) → 0 ≡ getD (valuesOf (sayOf a)) 0 0
 no-value Written = refl
 no-value WrongIncoming = refl
 no-value WrongOutgoing = refl

@@ -10,7 +10,7 @@ use Rattle.outcome.specs.Buffer.Part.{part-back}
 use Rattle.calls.specs.Step.{Step}
 use Rattle.calls.specs.Calls.{run}
 use Rattle.circ_runs.specs.Runs.{Call, call, lent, Left, left, unlent, twoBytes, before, inFront, runs}
-use Rattle.circ_runs.specs.Coders.{Leaves}
+use Rattle.circ_runs.specs.Inner.Coding.{Leaves}
 use Rattle.circ_runs.proofs.Lent.{lent-part, lent-rest, lent-from, lent-in, drop-two, take-replaced, drop-replaced, length-replaced}
 
 -- one thing behind another and a third is one behind two

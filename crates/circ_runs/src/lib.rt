@@ -2,12 +2,14 @@
 mod lending;
 
 ghost use mathlib.Core.Path.{_≡_};
-ghost use lib.ListN.{length, replicate, getD};
-ghost use Rattle.circ_reader.specs.Answers.{readerSay};
-ghost use Rattle.circ_writer.specs.Answers.{writerSay};
+ghost use lib.ListN.{length, getD};
+ghost use Rattle.circ.specs.Chains.{freshWriter, freshReader};
+ghost use Rattle.circ_reader.specs.Answers as readers;
+ghost use Rattle.circ_writer.specs.Answers as writers;
 ghost use Rattle.told.specs.Told.{numberOf, valuesOf};
 ghost use Rattle.circ_runs.specs.Runs.{call, left, runs};
-ghost use Rattle.circ_runs.specs.Coders.{writing, reading, coding, oneOf, Leaves};
+ghost use Rattle.circ_runs.specs.Coders.{writing, reading};
+ghost use Rattle.circ_runs.specs.Inner.Coding.{coding, oneOf, Leaves};
 use crate::lending::end_of;
 use crate::lending::put;
 use circ_reader::CircReader;
@@ -16,7 +18,7 @@ use circ_writer::CircWriter;
 use circ_writer::WriterAnswer;
 
 fn written(a: WriterAnswer) -> u8
-    ensures { λ r. ⌜ r ≡ numberOf (writerSay a) ⌝ }
+    ensures { λ r. ⌜ r ≡ numberOf (writers.sayOf a) ⌝ }
 {
     match a {
         WriterAnswer::Written => 0,
@@ -26,7 +28,7 @@ fn written(a: WriterAnswer) -> u8
 }
 
 fn was_read(a: ReaderAnswer) -> u8
-    ensures { λ r. ⌜ r ≡ numberOf (readerSay a) ⌝ }
+    ensures { λ r. ⌜ r ≡ numberOf (readers.sayOf a) ⌝ }
 {
     match a {
         ReaderAnswer::Sure => 0,
@@ -38,7 +40,7 @@ fn was_read(a: ReaderAnswer) -> u8
 
 // The doubt mark that comes with a frame.
 fn doubt(a: ReaderAnswer) -> u8
-    ensures { λ r. ⌜ r ≡ getD (valuesOf (readerSay a)) 0 0 ⌝ }
+    ensures { λ r. ⌜ r ≡ getD (valuesOf (readers.sayOf a)) 0 0 ⌝ }
 {
     match a {
         ReaderAnswer::Sure => 0,
@@ -73,7 +75,7 @@ fn read_frame(reader: CircReader, frame: &[u8], pair: &mut [u8], out: &mut [u8])
 // A run of one of the two, from a fresh state on.
 fn run(reads: bool, frames: &[u8], steps: &mut [u8], out: &mut [u8])
     ensures { λ _. ⌜ left (now (steps .exit)) (now (out .exit))
-        ≡ runs (coding reads) (oneOf reads (replicate 1554 0) (replicate 1552 0)) (now (steps .entry)) (now (frames .entry)) (now (out .entry)) ⌝ }
+        ≡ runs (coding reads) (oneOf reads freshReader freshWriter) (now (steps .entry)) (now (frames .entry)) (now (out .entry)) ⌝ }
 {
     let mut writer = CircWriter::new();
     let mut reader = CircReader::new();
@@ -100,14 +102,14 @@ fn run(reads: bool, frames: &[u8], steps: &mut [u8], out: &mut [u8])
 
 // A run from a fresh writer on.
 pub fn write(frames: &[u8], steps: &mut [u8], out: &mut [u8])
-    ensures { λ _. ⌜ left (now (steps .exit)) (now (out .exit)) ≡ runs writing (replicate 1552 0) (now (steps .entry)) (now (frames .entry)) (now (out .entry)) ⌝ }
+    ensures { λ _. ⌜ left (now (steps .exit)) (now (out .exit)) ≡ runs writing freshWriter (now (steps .entry)) (now (frames .entry)) (now (out .entry)) ⌝ }
 {
     run(false, frames, steps, out)
 }
 
 // A run from a fresh reader on.
 pub fn read(frames: &[u8], steps: &mut [u8], out: &mut [u8])
-    ensures { λ _. ⌜ left (now (steps .exit)) (now (out .exit)) ≡ runs reading (replicate 1554 0) (now (steps .entry)) (now (frames .entry)) (now (out .entry)) ⌝ }
+    ensures { λ _. ⌜ left (now (steps .exit)) (now (out .exit)) ≡ runs reading freshReader (now (steps .entry)) (now (frames .entry)) (now (out .entry)) ⌝ }
 {
     run(true, frames, steps, out)
 }

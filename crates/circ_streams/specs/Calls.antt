@@ -4,10 +4,11 @@ use mathlib.Core.Bool.{Bool, cond, _&&_}
 use mathlib.Core.List.{List, [], _∷_, map}
 use Prim.Native.Nat.{ℕ}
 use lib.Dec.{eqb}
-use lib.ListN.{length, replicate}
+use lib.ListN.{length}
 use Rattle.calls.specs.Step.{Step}
 use Rattle.calls.specs.Calls.{run, doneOf}
 use Rattle.circ.specs.Steps.{writes, reads}
+use Rattle.circ.specs.Chains.{freshWriter, freshReader}
 pub mod Done
 pub mod Streams
 pub mod ThereAndBack
@@ -26,10 +27,10 @@ readerDoes s c = reads s (c .frame) (c .out)
 
 -- the calls that are done, of a list of them from `new()` on
 abbrev pub writerDone : List Call → List (Step (List ℕ))
-writerDone cs = doneOf (run writerDoes (replicate 1552 0) cs)
+writerDone cs = doneOf (run writerDoes freshWriter cs)
 
 abbrev pub readerDone : List Call → List (Step (List ℕ))
-readerDone cs = doneOf (run readerDoes (replicate 1554 0) cs)
+readerDone cs = doneOf (run readerDoes freshReader cs)
 
 -- whether both lengths are right
 abbrev pub fits : ℕ → ℕ → Call → Bool

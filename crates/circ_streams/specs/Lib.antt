@@ -1,15 +1,7 @@
-pub mod Coding
-pub mod CodeLaws
-pub mod Tables
-pub mod Words
-pub mod Writing
-pub mod Written
-pub mod ReadRows
-pub mod Mended
-pub mod ThereAndBack
-pub mod Laws
-pub mod Runs
-pub mod Fresh
-pub mod Damage
-pub mod Doubt
+-- streams of frames, and lists of calls
+pub mod Streams
 pub mod Calls
+-- document 01, "CIRC": the doubt mark
+pub mod Doubt
+-- what the laws need on their way
+pub mod Inner

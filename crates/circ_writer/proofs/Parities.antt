@@ -1,7 +1,7 @@
 -- The bytes that `codeword` gives as parity are the Q bytes and the P bytes, since there is only one choice.
 -- Assumes nothing.
 use mathlib.Core.Path.{_≡_, refl, ap, ap₂, _∙_}
-use mathlib.Core.List.{List, [], _∷_, _++_, append-assoc}
+use mathlib.Core.List.{List, [], _∷_, _++_, append-nil, append-assoc}
 use Prim.Native.Nat.{ℕ}
 use native.Mathlib.Omega.{arith}
 use lib.ListN.{length, take, drop, getD, set}
@@ -37,6 +37,6 @@ module _ (w q : List ℕ) (bytes : Bytes w) where
       ∙ ap (λ (t : List ℕ). take 12 w ++ (t ++ drop 16 w)) (four q (P .long) ∙ q-is P)
 
   -- the word in front of the four bytes
-  pub filled-p : Parity 4 q (w ++ q) → (v : List ℕ) → v ≡ w → v ++ (getD q 0 0 ∷ getD q 1 0 ∷ getD q 2 0 ∷ getD q 3 0 ∷ []) ≡ withP pOf w
+  pub filled-p : Parity 4 q (w ++ q) → (v x : List ℕ) → v ≡ w → x ≡ q → v ++ (x ++ []) ≡ withP pOf w
   unfolding withP
-  filled-p P v e = ap₂ _++_ e (four q (P .long) ∙ parity-end-one 4 w q (pOf w) (omega arith) P (p-parity w bytes))
+  filled-p P v x e f = ap₂ _++_ e (append-nil x ∙ f ∙ parity-end-one 4 w q (pOf w) (omega arith) P (p-parity w bytes))

@@ -4,9 +4,10 @@ use mathlib.Core.List.{[]}
 use Rattle.outcome.specs.Say.{Say, done, refused}
 use Rattle.circ_writer.specs.declared.WriterAnswer as writing
 use Rattle.circ_writer.specs.declared.WriterAnswer.the-variants as written
-pub mod Once
+pub mod One
 
-abbrev pub writerSay : writing.WriterAnswer → Say
-writerSay written.Written = done []
-writerSay written.WrongIncoming = refused 1 []
-writerSay written.WrongOutgoing = refused 2 []
+-- the frame is all that comes back
+abbrev pub sayOf : writing.WriterAnswer → Say
+sayOf written.Written = done []
+sayOf written.WrongIncoming = refused 1 []
+sayOf written.WrongOutgoing = refused 2 []

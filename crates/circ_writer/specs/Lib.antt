@@ -1,1 +1,2 @@
+-- document 01's numbers
 pub mod Answers

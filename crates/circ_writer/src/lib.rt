@@ -1,10 +1,10 @@
 // The CIRC writer (clause 17, Annex C): F1-frames of 24 bytes become F2-frames of 32. Its state is the bytes that wait, all in one flat store.
 ghost use mathlib.Core.Path.{_≡_};
-ghost use lib.ListN.{length, replicate};
+ghost use lib.ListN.{length};
 ghost use Rattle.circ.specs.Rows.{placed};
-ghost use Rattle.circ.specs.Chains.{withQ, withP, writerOut, writerNext};
+ghost use Rattle.circ.specs.Chains.{freshWriter, withQ, withP, writerOut, writerNext};
 ghost use Rattle.circ.specs.Codes.{qOf, pOf};
-ghost use Rattle.circ_writer.specs.Answers.{writerSay};
+ghost use Rattle.circ_writer.specs.Answers.{sayOf};
 ghost use Rattle.calls.specs.Step.{step};
 ghost use Rattle.circ.specs.Steps.{writes};
 
@@ -86,10 +86,7 @@ fn fill_p(rows: [u8; 28]) -> [u8; 32]
 {
     let p = codeword::parity_at_end(&rows);
     let mut word = [0u8; 32];
-    word[28] = p[0];
-    word[29] = p[1];
-    word[30] = p[2];
-    word[31] = p[3];
+    outcome::copy(&p, &mut word[28..]);
     outcome::copy(&rows, &mut word[..28]);
     word
 }
@@ -97,7 +94,7 @@ fn fill_p(rows: [u8; 28]) -> [u8; 32]
 impl CircWriter {
     // As if endless zero F1-frames had gone before.
     pub fn new() -> Self
-        ensures { λ r. ⌜ r .line ≡ replicate 1552 0 ⌝ }
+        ensures { λ r. ⌜ r .line ≡ freshWriter ⌝ }
     {
         CircWriter { line: [0u8; 1552] }
     }
@@ -109,11 +106,11 @@ impl CircWriter {
     {
         let mut line = self.line;
         let mut rows = place(frame);
-        lines::section(&BEFORE_C2, &mut line, 0, 24, &mut rows);
+        lines::stage(&BEFORE_C2, &mut line, 0, 24, &mut rows);
         let mut c2 = fill_q(rows);
-        lines::section(&BETWEEN, &mut line, 24, 1512, &mut c2);
+        lines::stage(&BETWEEN, &mut line, 24, 1512, &mut c2);
         let mut c1 = fill_p(c2);
-        lines::section(&AFTER_C1, &mut line, 1536, 16, &mut c1);
+        lines::stage(&AFTER_C1, &mut line, 1536, 16, &mut c1);
         let f2 = circ::invert(c1);
         outcome::copy(&f2, out);
         CircWriter { line }
@@ -128,7 +125,7 @@ impl CircWriter {
 
     // An F1-frame of 24 bytes in, an F2-frame of 32 out.
     pub fn step(self, frame: &[u8], out: &mut [u8]) -> WriterStep
-        ensures { λ r. ⌜ step (writerSay (r .answer)) (r .next .line) (now (out .exit)) ≡ writes (self .line) (now (frame .entry)) (now (out .entry)) ⌝ }
+        ensures { λ r. ⌜ step (sayOf (r .answer)) (r .next .line) (now (out .exit)) ≡ writes (self .line) (now (frame .entry)) (now (out .entry)) ⌝ }
     {
         if frame.len() != 24 {
             outcome::wipe(out, 32);

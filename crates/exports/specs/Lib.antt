@@ -1,4 +1,7 @@
+-- what a verdict says
 pub mod Verdicts
+-- what each export promises allows one outcome
+pub mod One
 pub mod Parities
-pub mod Once
+-- document 02, §6
 pub mod NeverEight

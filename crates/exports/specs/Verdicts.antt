@@ -6,7 +6,7 @@ use Rattle.codeword.specs.declared.Verdict.{Verdict}
 use Rattle.codeword.specs.declared.Verdict.the-variants.{Clean, Change, Lost}
 
 -- 0 for clean, 1 with the place and its new byte, 2 for lost
-abbrev pub sayVerdict : Verdict → Say
-sayVerdict Clean = done []
-sayVerdict (Change i b) = refused 1 (i ∷ b ∷ [])
-sayVerdict Lost = refused 2 []
+abbrev pub sayOf : Verdict → Say
+sayOf Clean = done []
+sayOf (Change i b) = refused 1 (i ∷ b ∷ [])
+sayOf Lost = refused 2 []

@@ -5,11 +5,11 @@ ghost use lib.ListN.{take, drop};
 ghost use Rattle.codeword.specs.Nearest.{verdict};
 ghost use Rattle.codeword.specs.Parity.{Parity};
 ghost use Rattle.told.specs.Told.{Tells, Told};
-ghost use Rattle.exports.specs.Verdicts.{sayVerdict};
+ghost use Rattle.exports.specs.Verdicts.{sayOf};
 use codeword::Verdict;
 
 fn tell(v: Verdict, change: &mut [u64; 2]) -> u8
-    ensures { λ r. ⌜ Tells 2 (sayVerdict v) r (now (change .exit)) ⌝ }
+    ensures { λ r. ⌜ Tells 2 (sayOf v) r (now (change .exit)) ⌝ }
 {
     match v {
         Verdict::Clean => {
@@ -30,7 +30,7 @@ fn tell(v: Verdict, change: &mut [u64; 2]) -> u8
 // A word of P or Q.
 #[no_mangle]
 pub extern "C" fn road_verdict_of_two(w: &[u8], change: &mut [u64; 2]) -> u8
-    ensures { λ r. ⌜ Told 2 (λ say. say ≡ sayVerdict (verdict 2 (now (w .entry)))) r (now (change .exit)) ⌝ }
+    ensures { λ r. ⌜ Told 2 (λ say. say ≡ sayOf (verdict 2 (now (w .entry)))) r (now (change .exit)) ⌝ }
 {
     tell(codeword::verdict_of_two(w), change)
 }
@@ -38,7 +38,7 @@ pub extern "C" fn road_verdict_of_two(w: &[u8], change: &mut [u64; 2]) -> u8
 // A word of C1 or C2.
 #[no_mangle]
 pub extern "C" fn road_verdict_of_four(w: &[u8], change: &mut [u64; 2]) -> u8
-    ensures { λ r. ⌜ Told 2 (λ say. say ≡ sayVerdict (verdict 4 (now (w .entry)))) r (now (change .exit)) ⌝ }
+    ensures { λ r. ⌜ Told 2 (λ say. say ≡ sayOf (verdict 4 (now (w .entry)))) r (now (change .exit)) ⌝ }
 {
     tell(codeword::verdict_of_four(w), change)
 }

@@ -12,8 +12,8 @@ use Rattle.codeword.specs.Code.{sum}
 use Rattle.rspc.specs.Words.{place, pNumber, qNumber, pWord}
 use Rattle.scrambling.specs.Sequence.{sequence, bit, register, next}
 use Rattle.circ.specs.Rows.{rowDelay, beforeC2, between, afterC1}
-use Rattle.circ_streams.specs.Laws.{f2At}
-use Rattle.circ_streams.specs.Fresh.Before.{zero-frames}
+use Rattle.circ_streams.specs.Streams.{f2At}
+use Rattle.circ_streams.specs.Streams.Fresh.{zero-frames}
 use Rattle.bits.specs.Bits.{bitsOf}
 use Rattle.words.specs.Words.{words, wordOf, sync0, sync1}
 use Rattle.merging.specs.Automaton.{step, steps, live, shown}

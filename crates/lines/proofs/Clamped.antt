@@ -11,7 +11,7 @@ use lib.Seq.{take-all, drop-drop}
 use Rattle.outcome.specs.First.Found.{lt-or-le}
 use Rattle.outcome.specs.Buffer.Part.{part-back}
 use Rattle.lines.specs.Delay.{rowsOut, rowsNext}
-use Rattle.lines.specs.Parts.{part, sectioned}
+use Rattle.lines.specs.Part.{part, staged}
 
 -- n, or as many as there are
 abbrev clamped : ℕ → ℕ → ℕ
@@ -44,10 +44,10 @@ module _ (s : List ℕ) (from count start more : ℕ) (es : start ≡ clamped fr
       let e : start + more - start ≡ more = omega arith in
       ap (λ (k : ℕ). take k (drop start s)) (e ∙ more-is) ∙ take-clamped count (drop start s) ∙ ap (take count) rest
 
-  -- what `delay` does to the part that is lent to it is what the section does
-  pub section-clamped : (ds w w' q : List ℕ) → w' ≡ rowsOut ds (take (start + more - start) (drop start s)) w → q ≡ rowsNext ds (take (start + more - start) (drop start s)) w
-      → (w' ≡ rowsOut ds (part from count s) w) × (putMid start (start + more - start) s q ≡ sectioned ds from count s w)
-  section-clamped ds w w' q eo eq = (
+  -- what `delay` does to the part that is lent to it is what the stage does
+  pub stage-clamped : (ds w w' q : List ℕ) → w' ≡ rowsOut ds (take (start + more - start) (drop start s)) w → q ≡ rowsNext ds (take (start + more - start) (drop start s)) w
+      → (w' ≡ rowsOut ds (part from count s) w) × (putMid start (start + more - start) s q ≡ staged ds from count s w)
+  stage-clamped ds w w' q eo eq = (
     eo ∙ ap (λ (l : List ℕ). rowsOut ds l w) part-clamped,
     part-back start (start + more) s q (omega arith)
         ∙ ap₂ (λ (a b : List ℕ). a ++ (q ++ b)) (ap (λ (k : ℕ). take k s) es ∙ take-clamped from s)

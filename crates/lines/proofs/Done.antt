@@ -1,4 +1,4 @@
--- The end of the loop over a section's rows: the word is what the section gives, and the shift takes the carry in.
+-- The end of the loop over a stage's rows: the word is what the stage gives, and the shift takes the carry in.
 -- Assumes nothing.
 use mathlib.Core.Path.{_≡_, refl, sym, ap, _∙_}
 use mathlib.Core.Logic.{_⊎_, inl, inr, ⊎-elim}
@@ -9,7 +9,7 @@ use lib.ListN.{length, take, drop, length-append, length-drop, drop-of-length-le
 use lib.Seq.{drop-append-le, length-take-le}
 use Rattle.outcome.specs.First.Found.{lt-or-le}
 use Rattle.lines.specs.Delay.{lineNext, rowsOut, rowsNext}
-use Rattle.lines.specs.Lines.{length-next}
+use Rattle.lines.specs.Delay.Lengths.{length-next}
 use Rattle.lines.proofs.Going.{Going}
 
 -- the store is as long after the shift

@@ -1,4 +1,4 @@
--- The loop over a section's rows. The oldest byte of each line gives its place to the newest byte of the line before it, the carry:
+-- The loop over a stage's rows. The oldest byte of each line gives its place to the newest byte of the line before it, the carry:
 -- what stands in the store before the place reached, then the carry, then the step that is left, is always the store after the step, with one byte before it.
 -- Assumes nothing.
 use mathlib.Core.Path.{_≡_, refl, sym, ap, ap₂, _∙_}

@@ -1,4 +1,4 @@
--- The rows of a section from the k-th on, and a line that ends at the store's end.
+-- The rows of a stage from the k-th on, and a line that ends at the store's end.
 -- Assumes nothing.
 use mathlib.Core.Path.{_≡_, refl, sym, ap, _∙_}
 use mathlib.Core.Logic.{_⊎_, ⊎-elim}

@@ -1,14 +1,17 @@
--- Three sections one after the other, their lines in one flat store, with a function before each.
+-- Three stages one after the other, their lines in one flat store, with a function before each.
 -- Assumes nothing.
 use Prim.Native.Nat.{ℕ, zero, suc, _+_}
 use mathlib.Core.List.{List, _++_}
 use lib.ListN.{take, drop, replicate}
 use Rattle.lines.specs.Delay.{rowsOut, rowsNext, total}
 use Rattle.lines.specs.Stream.{outAt}
+pub mod Streams
+pub mod Parts
+pub mod Zeros
 pub mod Fresh
 
 module _ (d₁ d₂ d₃ : List ℕ) (g₁ g₂ g₃ : List ℕ → List ℕ) where
-  -- the lines of each section
+  -- the lines of each stage
   abbrev pub lines₁ : List ℕ → List ℕ
   lines₁ s = take (total d₁) s
 
@@ -18,7 +21,7 @@ module _ (d₁ d₂ d₃ : List ℕ) (g₁ g₂ g₃ : List ℕ → List ℕ) wh
   abbrev pub lines₃ : List ℕ → List ℕ
   lines₃ s = take (total d₃) (drop (total d₁ + total d₂) s)
 
-  -- what goes into the second and into the third section
+  -- what goes into the second and into the third stage
   abbrev pub word₂ : List ℕ → List ℕ → List ℕ
   word₂ s x = g₂ (rowsOut d₁ (lines₁ s) (g₁ x))
 

@@ -2,7 +2,8 @@
 -- Assumes nothing.
 use Prim.Native.Nat.{ℕ, _+_}
 use mathlib.Core.List.{List, [], _∷_, _++_}
-use lib.ListN.{take, drop, getD}
+use lib.ListN.{take, drop, getD, replicate}
+pub mod Lengths
 
 -- what comes out of a line when x goes in: the oldest byte, or x itself where the line has no length
 unfoldable pub lineOut : List ℕ → ℕ → ℕ
@@ -12,7 +13,7 @@ lineOut s x = getD (s ++ (x ∷ [])) 0 0
 unfoldable pub lineNext : List ℕ → ℕ → List ℕ
 lineNext s x = drop 1 (s ++ (x ∷ []))
 
--- a section of lines: row k of the word goes through a line of the k-th length of ds; the lines stand one after the other in the store s. Rows past ds do not wait.
+-- a stage of lines: row k of the word goes through a line of the k-th length of ds; the lines stand one after the other in the store s. Rows past ds do not wait.
 unfoldable pub rowsOut : List ℕ → List ℕ → List ℕ → List ℕ
 rowsOut [] s w = w
 rowsOut (d ∷ ds) s [] = []
@@ -24,7 +25,11 @@ rowsNext [] s w = s
 rowsNext (d ∷ ds) s [] = s
 rowsNext (d ∷ ds) s (x ∷ w) = lineNext (take d s) x ++ rowsNext ds (drop d s) w
 
--- how many bytes a section holds
+-- how many bytes a stage holds
 unfoldable pub total : List ℕ → ℕ
 total [] = 0
 total (d ∷ ds) = d + total ds
+
+-- so many zeros: a fresh store, or a word of them
+abbrev pub zeros : ℕ → List ℕ
+zeros n = replicate n 0

@@ -1,10 +1,6 @@
+-- delay lines, step by step
 pub mod Delay
-pub mod Lines
-pub mod Stream
-pub mod Back
-pub mod Section
-pub mod Series
+pub mod Part
 pub mod Chain
-pub mod Chained
-pub mod Parts
-pub mod Zeros
+-- and over time
+pub mod Stream

@@ -4,6 +4,9 @@ use Prim.Native.Nat.{ℕ, zero, suc}
 use mathlib.Core.List.{List}
 use lib.ListN.{replicate}
 use Rattle.lines.specs.Delay.{rowsOut, rowsNext, total}
+pub mod Late
+pub mod Rows
+pub mod Series
 
 -- the stream x, d steps later; z before the start
 unfoldable pub back : {A : Type 0} → A → (ℕ → A) → ℕ → ℕ → A
@@ -11,11 +14,11 @@ back z x zero n = x n
 back z x (suc d) zero = z
 back z x (suc d) (suc n) = back z x d n
 
--- the store of a section before step n, from a fresh one, when the words w go in
+-- the store of a stage before step n, from a fresh one, when the words w go in
 unfoldable pub stateAt : List ℕ → (ℕ → List ℕ) → ℕ → List ℕ
 stateAt ds w zero = replicate (total ds) 0
 stateAt ds w (suc n) = rowsNext ds (stateAt ds w n) (w n)
 
--- what the section gives at step n
+-- what the stage gives at step n
 unfoldable pub outAt : List ℕ → (ℕ → List ℕ) → ℕ → List ℕ
 outAt ds w n = rowsOut ds (stateAt ds w n) (w n)

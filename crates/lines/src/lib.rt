@@ -2,7 +2,7 @@
 ghost use mathlib.Core.Path.{_≡_};
 ghost use Prim.Native.Nat.{_-_};
 ghost use Rattle.lines.specs.Delay.{lineNext, rowsOut, rowsNext};
-ghost use Rattle.lines.specs.Parts.{part, sectioned};
+ghost use Rattle.lines.specs.Part.{part, staged};
 
 // The smaller of two numbers.
 fn smaller(a: usize, b: usize) -> usize
@@ -58,9 +58,9 @@ pub fn delay(lens: &[u8], line: &mut [u8], word: &mut [u8])
 }
 
 // The same where the lines stand in `count` bytes of a longer store, from one place on, or in as many as it has there.
-pub fn section(lens: &[u8], store: &mut [u8], from: usize, count: usize, word: &mut [u8])
+pub fn stage(lens: &[u8], store: &mut [u8], from: usize, count: usize, word: &mut [u8])
     ensures { λ _. ⌜ (now (word .exit) ≡ rowsOut (now (lens .entry)) (part from count (now (store .entry))) (now (word .entry)))
-        × (now (store .exit) ≡ sectioned (now (lens .entry)) from count (now (store .entry)) (now (word .entry))) ⌝ }
+        × (now (store .exit) ≡ staged (now (lens .entry)) from count (now (store .entry)) (now (word .entry))) ⌝ }
 {
     let start = smaller(from, store.len());
     let end = start + smaller(count, store.len() - start);

@@ -17,6 +17,11 @@ abbrev pub demand : Bool → ℕ → Say → Say
 demand true n rest = rest
 demand false n rest = refused n []
 
+-- document 01's refusals of an entry that takes one buffer and fills another, by whether each has its right length: 1, then 2. Open behind: what
+-- else it may refuse, and that it is done, stand in `rest`.
+abbrev pub oneThenTwo : Bool → Bool → Say → Say
+oneThenTwo incoming outgoing rest = demand incoming 1 (demand outgoing 2 rest)
+
 -- an outgoing buffer after a refusal: all zeros if its length is right, else untouched
 abbrev pub cleared : ℕ → List ℕ → List ℕ
 cleared right old = cond (eqb (length old) right) (replicate right 0) old

@@ -4,7 +4,7 @@ use mathlib.Core.List.{List, []}
 use Prim.Native.Nat.{ℕ}
 use lib.Dec.{eqb}
 use lib.ListN.{length}
-use Rattle.outcome.specs.Say.{Say, done, refused, demand, Outcome, answered}
+use Rattle.outcome.specs.Say.{Say, done, refused, oneThenTwo, Outcome, answered}
 use Rattle.scrambling.specs.declared.Answer.{Answer}
 use Rattle.scrambling.specs.declared.Answer.the-variants.{Done, WrongIncoming, WrongOutgoing}
 pub mod Ways
@@ -17,7 +17,7 @@ sayOf WrongOutgoing = refused 2 []
 
 -- the refusals in their order
 abbrev pub says : List ℕ → List ℕ → Say
-says incoming old = demand (eqb (length incoming) 2352) 1 (demand (eqb (length old) 2352) 2 (done []))
+says incoming old = oneThenTwo (eqb (length incoming) 2352) (eqb (length old) 2352) (done [])
 
 -- answer and outgoing buffer, where `make` says what the incoming bytes become
 unfoldable pub answering : (List ℕ → List ℕ) → List ℕ → List ℕ → Outcome

@@ -23,6 +23,7 @@ parity-right a b ha hb =
     subst (λ (t : List ℕ). Parity 4 (parity a b .0) (t ++ (parity a b .0 ++ b))) (as-is a ha)
     (subst (λ (t : List ℕ). Parity 4 (parity a b .0) (asBytes a ++ (parity a b .0 ++ t))) (as-is b hb) (parity a b .1))
 
+-- it is four bytes, whatever stands around it
 pub four-bytes : (a b : List ℕ) → length (parityBetween a b) ≡ 4
 unfolding parityBetween
 four-bytes a b = parity a b .1 .long
@@ -31,6 +32,7 @@ pub bytes-parity : (a b : List ℕ) → Bytes (parityBetween a b)
 unfolding parityBetween
 bytes-parity a b = parity a b .1 .bytes
 
+-- with them, a C2 word and a C1 word are codewords
 pub q-parity : (w : List ℕ) → Bytes w → Parity 4 (qOf w) (withQ qOf w)
 unfolding qOf withQ
 q-parity w h = parity-right (take 12 w) (drop 16 w) (bytes-take 12 w h) (bytes-drop 16 w h)

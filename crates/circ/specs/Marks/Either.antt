@@ -6,6 +6,7 @@ use Prim.Native.Nat.{ℕ}
 use Rattle.circ.specs.Rows.{either}
 use Rattle.circ.specs.Marks.{Marks}
 
+-- `either` is the mark of "or"
 pub either-marks : {P Q : Type 0} (a b : ℕ) → Marks a P → Marks b Q → Marks (either a b) (P ⊎ Q)
 either-marks a b (inl (e, p)) (inl (f, q)) = inl (ap₂ either e f, inl p)
 either-marks a b (inl (e, p)) (inr (f, q)) = inl (ap₂ either e f, inl p)

@@ -2,8 +2,9 @@
 -- Assumes nothing.
 use borrow.Author.Needs.{needs}
 use Prim.Native.Nat.{_-_}
-use lib.ListN.{length, replicate}
-use Rattle.circ_runs.specs.Coders.{coding, oneOf}
+use lib.ListN.{length}
+use Rattle.circ.specs.Chains.{freshWriter, freshReader}
+use Rattle.circ_runs.specs.Inner.Coding.{coding, oneOf}
 use Rattle.circ_runs.proofs.Leaving.{of-reader, of-writer}
 use Rattle.circ_runs.proofs.Running.{Running, running-none, running-more, running-all}
 use Rattle.circ_runs.proofs.run.Statement.{statement}
@@ -11,7 +12,7 @@ use Rattle.circ_runs.proofs.run.Tie as tie
 
 abbrev Inv-loop : tie.InvT-loop
 Inv-loop reads frames steps₀ out₀ writer₀ reader₀ k₀ from₀ to₀ steps out writer reader k from to =
-    Running (coding reads) (oneOf reads (replicate 1554 0) (replicate 1552 0)) frames steps₀ out₀ (oneOf reads (reader .line) (writer .line)) k from to steps out
+    Running (coding reads) (oneOf reads freshReader freshWriter) frames steps₀ out₀ (oneOf reads (reader .line) (writer .line)) k from to steps out
 
 abbrev μ-loop : tie.MeasureT-loop
 μ-loop reads frames steps₀ out₀ writer₀ reader₀ k₀ from₀ to₀ steps out writer reader k from to = length steps - k

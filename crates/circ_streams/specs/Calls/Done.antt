@@ -7,7 +7,7 @@ use Prim.Native.Nat.{ℕ, zero, suc}
 use borrow.Author.Tests.{eqb-true}
 use lib.Dec.{eqb}
 use lib.ListN.{length, getD, replicate, length-replicate}
-use Rattle.outcome.specs.Say.{done, demand}
+use Rattle.outcome.specs.Say.{done, oneThenTwo}
 use Rattle.calls.specs.Step.{Step, isDone}
 use Rattle.calls.specs.Step.Kept.{refused-keeps}
 use Rattle.calls.specs.Calls.{run, doneOf, accepted, firsts}
@@ -15,7 +15,7 @@ use Rattle.calls.specs.Calls.Refused.{done-alike}
 use Rattle.circ.specs.Step.{answerTo, stepped}
 use Rattle.circ_streams.specs.Calls.{Call, fits, fitting, frames}
 
-both : (a b : Bool) (values : List ℕ) → isDone (demand a 1 (demand b 2 (done values))) ≡ (a && b)
+both : (a b : Bool) (values : List ℕ) → isDone (oneThenTwo a b (done values)) ≡ (a && b)
 both true true values = refl
 both true false values = refl
 both false b values = refl

@@ -9,8 +9,9 @@ use Rattle.calls.specs.Step.{step}
 use Rattle.calls.specs.Calls.{run, doneOf, accepted, firsts}
 use Rattle.circ.specs.Chains.{writerOut, writerNext, writerAt, readerOut, readerDoubt, readerNext, readerAt}
 use Rattle.circ.specs.Codes.{qOf, pOf, corrected, lost}
-use Rattle.circ_streams.specs.Laws.{f2At, f1At, doubtAt, writer-fresh, reader-fresh}
-use Rattle.circ_streams.specs.Runs.{writer-run, reader-run}
+use Rattle.circ_streams.specs.Streams.{f2At, f1At, doubtAt}
+use Rattle.circ_streams.specs.Streams.Steps.{writer-fresh, reader-fresh}
+use Rattle.circ_streams.specs.Streams.Steps.{writer-step, reader-step}
 use Rattle.circ_streams.specs.Calls.{Call, writerDoes, readerDoes, writerDone, readerDone, fitting, writerFrames, readerFrames}
 use Rattle.circ_streams.specs.Calls.Done.{done-fitting, done-along}
 
@@ -26,7 +27,7 @@ pub writer-calls : (cs : List Call) (f : ℕ → List ℕ) → writerFrames cs �
     → writerDone cs ≡ firsts (λ n. step (done []) (writerAt qOf pOf f (suc n)) (f2At f n)) 0 (length (writerFrames cs))
 writer-calls cs f e =
     ap (λ (s : List ℕ). doneOf (run writerDoes s cs)) (sym (writer-fresh f))
-    ∙ done-along 24 32 (λ s w. []) (writerOut qOf pOf) (writerNext qOf pOf) f (writerAt qOf pOf f) _ (λ n. refl) (writer-run f) cs e
+    ∙ done-along 24 32 (λ s w. []) (writerOut qOf pOf) (writerNext qOf pOf) f (writerAt qOf pOf f) _ (λ n. refl) (writer-step f) cs e
 
 pub reader-calls : (cs : List Call) (g : ℕ → List ℕ) → readerFrames cs ≡ firsts g 0 (length (readerFrames cs))
     → readerDone cs ≡ firsts (λ n. step (done (doubtAt g n ∷ [])) (readerAt corrected corrected lost g (suc n)) (f1At g n)) 0 (length (readerFrames cs))
@@ -36,6 +37,6 @@ reader-calls cs g e =
     (readerAt corrected corrected lost g)
     _
     (λ n. refl)
-    (reader-run g)
+    (reader-step g)
     cs
     e

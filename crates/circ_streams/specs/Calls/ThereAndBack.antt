@@ -13,7 +13,8 @@ use Rattle.calls.specs.Calls.{firsts}
 use Rattle.calls.specs.Calls.Firsts.{length-firsts, map-firsts, firsts-at, begins}
 use Rattle.circ.specs.Chains.{writerAt, readerAt}
 use Rattle.circ.specs.Codes.{qOf, pOf, corrected, lost}
-use Rattle.circ_streams.specs.Laws.{F1Frames, f2At, f1At, doubtAt, there-and-back, zeros-before, without-doubt}
+use Rattle.circ_streams.specs.Streams.{F1Frames, f2At, f1At, doubtAt, roundTrip}
+use Rattle.circ_streams.specs.Streams.ThereAndBack.{there-and-back, zeros-before, without-doubt}
 use Rattle.circ_streams.specs.Calls.{Call, writerDone, readerDone, writerFrames, readerFrames, outs}
 use Rattle.circ_streams.specs.Calls.Done.{frames-long}
 use Rattle.circ_streams.specs.Calls.Streams.{writer-calls, reader-calls}
@@ -50,16 +51,16 @@ module _ (cs ds : List Call) (bytes : (n : ℕ) → Bytes (getD (writerFrames cs
       ∙ firsts-at z answer (length (readerFrames ds)) n (omega (arith, ap length read, length-firsts answer 0 (length (readerFrames ds))))
 
   -- the frame of the writer's call n, at the reader's call 111 + n
-  pub calls-there-and-back : (n : ℕ) (z : Step (List ℕ)) → 111 + n < length (readerDone ds)
-      → (getD (readerDone ds) (111 + n) z .say ≡ done (0 ∷ [])) × (getD (readerDone ds) (111 + n) z .out ≡ getD (writerFrames cs) n (replicate 24 0))
+  pub calls-there-and-back : (n : ℕ) (z : Step (List ℕ)) → roundTrip + n < length (readerDone ds)
+      → (getD (readerDone ds) (roundTrip + n) z .say ≡ done (0 ∷ [])) × (getD (readerDone ds) (roundTrip + n) z .out ≡ getD (writerFrames cs) n (replicate 24 0))
   calls-there-and-back n z h =
-      let e = at (111 + n) z h in (
-        ap (λ (t : Step (List ℕ)). t .say) e ∙ ap (λ (d : ℕ). done (d ∷ [])) (without-doubt f written (111 + n)),
+      let e = at (roundTrip + n) z h in (
+        ap (λ (t : Step (List ℕ)). t .say) e ∙ ap (λ (d : ℕ). done (d ∷ [])) (without-doubt f written (roundTrip + n)),
         ap (λ (t : Step (List ℕ)). t .out) e ∙ there-and-back f written n,
       )
 
   -- zeros before
-  pub calls-zeros-before : (n : ℕ) (z : Step (List ℕ)) → n < 111 → n < length (readerDone ds)
+  pub calls-zeros-before : (n : ℕ) (z : Step (List ℕ)) → n < roundTrip → n < length (readerDone ds)
       → (getD (readerDone ds) n z .say ≡ done (0 ∷ [])) × (getD (readerDone ds) n z .out ≡ replicate 24 0)
   calls-zeros-before n z l h =
       let e = at n z h in (

@@ -11,9 +11,9 @@ use Rattle.circ.specs.Marks.{Marks}
 use Rattle.circ.specs.Marks.Either.{either-marks}
 use Rattle.circ.specs.Chains.{metC2}
 use Rattle.circ.specs.Codes.{corrected, lost}
-use Rattle.circ_streams.specs.CodeLaws.{judged, length-corrected, bytes-corrected}
-use Rattle.circ_streams.specs.ReadRows.{length-met-c2, bytes-met-c2, doubt-read}
-use Rattle.circ_streams.specs.Laws.{F2Frames, doubtAt}
+use Rattle.circ_streams.specs.Inner.Codes.{judged, length-corrected, bytes-corrected}
+use Rattle.circ_streams.specs.Inner.ReaderRows.{length-met-c2, bytes-met-c2, doubt-read}
+use Rattle.circ_streams.specs.Streams.{F2Frames, doubtAt}
 use Rattle.circ_streams.specs.Doubt.{NoneNear, Doubted}
 
 module _ (g : ℕ → List ℕ) (frames : F2Frames g) where

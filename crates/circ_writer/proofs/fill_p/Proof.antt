@@ -1,4 +1,4 @@
--- `circ_writer::fill_p` meets its contract: the four bytes that make a codeword are the P bytes (`filled-p`).
+-- `circ_writer::fill_p` meets its contract: the rows in front of the four bytes that make a codeword, which are the P bytes (`filled-p`).
 -- Assumes nothing.
 use Prim.Native.Nat.{ℕ}
 use lib.ListN.{length, getD}
@@ -16,41 +16,32 @@ slice-aggregate-parity-at-end c = search needs
 parity-at-end-requires : tie.Need-parity-at-end-requires
 parity-at-end-requires c κs = search needs
 
-array-read-word : tie.Need-array-read-word
-array-read-word c = search needs
-
-array-write-word : tie.Need-array-write-word
-array-write-word c = search needs
-
-array-read-word-2 : tie.Need-array-read-word-2
-array-read-word-2 c = search needs
-
-array-write-word-2 : tie.Need-array-write-word-2
-array-write-word-2 c = search needs
-
-array-read-word-3 : tie.Need-array-read-word-3
-array-read-word-3 c = search needs
-
-array-write-word-3 : tie.Need-array-write-word-3
-array-write-word-3 c = search needs
-
-array-read-word-4 : tie.Need-array-read-word-4
-array-read-word-4 c = search needs
-
-array-write-word-4 : tie.Need-array-write-word-4
-array-write-word-4 c = search needs
-
 slice-aggregate-copy : tie.Need-slice-aggregate-copy
 slice-aggregate-copy c = search needs
 
-array-borrow-prefix-word : tie.Need-array-borrow-prefix-word
-array-borrow-prefix-word c = search needs
+sub-copy : tie.Need-sub-copy
+sub-copy c = search needs
+
+part-word-start : tie.Need-part-word-start
+part-word-start c = search needs
+
+part-word-end : tie.Need-part-word-end
+part-word-end c = search needs
+
+copy-requires : tie.Need-copy-requires
+copy-requires c κs = search needs
 
 slice-aggregate-copy-2 : tie.Need-slice-aggregate-copy-2
 slice-aggregate-copy-2 c = search needs
 
-copy-requires : tie.Need-copy-requires
-copy-requires c κs = search needs
+array-borrow-prefix-word : tie.Need-array-borrow-prefix-word
+array-borrow-prefix-word c = search needs
+
+slice-aggregate-copy-3 : tie.Need-slice-aggregate-copy-3
+slice-aggregate-copy-3 c = search needs
+
+copy-requires-2 : tie.Need-copy-requires-2
+copy-requires-2 c κs = search needs
 
 -- each element is a byte
 byte : (c : tie.Start) (i : ℕ) → Fits w8 (getD (c .args .t1) i 0)
@@ -58,12 +49,15 @@ byte c i = search needs
 
 returns : tie.Need-returns
 returns c =
-    let copy = c .before in
+    let copies = c .before in
+    let copy = copies .before .before .before .before in
     let parity = copy .before .before .before in
     let start = parity .before .before in
     let rows = start .args .t1 in
-    filled-p rows (parity .parity-at-end .result) (λ i. byte start i .fits) (parity .parity-at-end .ensures) _
-    (same-lengths (copy .copy .result) (length rows) 28 _ rows _ (copy .copy .ensures) (search needs))
+    let p = parity .parity-at-end .result in
+    filled-p rows p (λ i. byte start i .fits) (parity .parity-at-end .ensures) _ _
+    (same-lengths (copies .copy2 .result) (length rows) 28 _ rows _ (copies .copy2 .ensures) (search needs))
+    (same-lengths (copy .copy .result) (length p) 4 _ p _ (copy .copy .ensures) (parity .parity-at-end .ensures .long))
 
 pub fill-p-spec : {M : Type 1} → statement M
 fill-p-spec =
@@ -71,16 +65,13 @@ fill-p-spec =
     (tie.spec
     slice-aggregate-parity-at-end
     parity-at-end-requires
-    array-read-word
-    array-write-word
-    array-read-word-2
-    array-write-word-2
-    array-read-word-3
-    array-write-word-3
-    array-read-word-4
-    array-write-word-4
     slice-aggregate-copy
-    array-borrow-prefix-word
-    slice-aggregate-copy-2
+    sub-copy
+    part-word-start
+    part-word-end
     copy-requires
+    slice-aggregate-copy-2
+    array-borrow-prefix-word
+    slice-aggregate-copy-3
+    copy-requires-2
     returns)

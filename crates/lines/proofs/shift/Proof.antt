@@ -8,7 +8,8 @@ use lib.ListN.{length, set, length-set}
 use Rattle.outcome.specs.Buffer.{Filling}
 use Rattle.outcome.specs.Buffer.Filled.{filling-none, filling-long, filling-more, filling-all, filling-rest}
 use Rattle.lines.specs.Delay.{lineNext}
-use Rattle.lines.specs.Lines.{length-next, next-at, next-last, next-none}
+use Rattle.lines.specs.Delay.Lengths.{length-next}
+use Rattle.lines.proofs.Shifted.{next-at, next-last, next-none}
 use Rattle.lines.proofs.shift.Statement.{statement}
 use Rattle.lines.proofs.shift.Tie as tie
 

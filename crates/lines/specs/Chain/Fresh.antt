@@ -8,7 +8,7 @@ use native.Mathlib.Omega.{arith}
 use lib.ListN.{replicate}
 use Rattle.lines.specs.Delay.{total}
 use Rattle.lines.specs.Stream.{back}
-use Rattle.lines.specs.Back.{back-later, back-before}
+use Rattle.lines.specs.Stream.Late.{back-later, back-before}
 use Rattle.lines.specs.Chain.{chainNext, chainAt}
 
 module _ (d₁ d₂ d₃ : List ℕ) (g₁ g₂ g₃ : List ℕ → List ℕ) (z : List ℕ)

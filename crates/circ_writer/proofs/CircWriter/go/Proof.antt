@@ -1,11 +1,11 @@
--- `circ_writer::CircWriter::go` meets its contract: three sections over three parts of the store, with C2 and C1 between them, are a step of the chain (`chain-step`).
+-- `circ_writer::CircWriter::go` meets its contract: three stages over three parts of the store, with C2 and C1 between them, are a step of the chain (`chain-step`).
 -- Assumes nothing.
 use mathlib.Core.Path.{_≡_, refl, ap, _∙_}
 use native.Mathlib.Omega.{arith}
 use lib.ListN.{length}
 use Rattle.outcome.specs.Buffer.Lengths.{same-lengths}
 use Rattle.lines.specs.Delay.{total}
-use Rattle.lines.specs.Parts.{chain-step}
+use Rattle.lines.specs.Chain.Parts.{chain-step}
 use Rattle.circ.specs.Rows.{placed, beforeC2, between, afterC1, inverted}
 use Rattle.circ.specs.Chains.{withQ, withP, writerNext, writerOut}
 use Rattle.circ.specs.Codes.{qOf, pOf}
@@ -16,47 +16,47 @@ use Rattle.circ_writer.proofs.CircWriter.go.Tie as tie
 place-requires : tie.Need-place-requires
 place-requires c κs = search needs
 
-slice-aggregate-section : tie.Need-slice-aggregate-section
-slice-aggregate-section c = search needs
+slice-aggregate-stage : tie.Need-slice-aggregate-stage
+slice-aggregate-stage c = search needs
 
-slice-aggregate-section-2 : tie.Need-slice-aggregate-section-2
-slice-aggregate-section-2 c = search needs
+slice-aggregate-stage-2 : tie.Need-slice-aggregate-stage-2
+slice-aggregate-stage-2 c = search needs
 
-slice-aggregate-section-3 : tie.Need-slice-aggregate-section-3
-slice-aggregate-section-3 c = search needs
+slice-aggregate-stage-3 : tie.Need-slice-aggregate-stage-3
+slice-aggregate-stage-3 c = search needs
 
-section-requires : tie.Need-section-requires
-section-requires c κs = search needs
+stage-requires : tie.Need-stage-requires
+stage-requires c κs = search needs
 
 fill-q-requires : tie.Need-fill-q-requires
 fill-q-requires c κs = search needs
 
-slice-aggregate-section-4 : tie.Need-slice-aggregate-section-4
-slice-aggregate-section-4 c = search needs
+slice-aggregate-stage-4 : tie.Need-slice-aggregate-stage-4
+slice-aggregate-stage-4 c = search needs
 
-slice-aggregate-section-5 : tie.Need-slice-aggregate-section-5
-slice-aggregate-section-5 c = search needs
+slice-aggregate-stage-5 : tie.Need-slice-aggregate-stage-5
+slice-aggregate-stage-5 c = search needs
 
-slice-aggregate-section-6 : tie.Need-slice-aggregate-section-6
-slice-aggregate-section-6 c = search needs
+slice-aggregate-stage-6 : tie.Need-slice-aggregate-stage-6
+slice-aggregate-stage-6 c = search needs
 
-section-requires-2 : tie.Need-section-requires-2
-section-requires-2 c κs = search needs
+stage-requires-2 : tie.Need-stage-requires-2
+stage-requires-2 c κs = search needs
 
 fill-p-requires : tie.Need-fill-p-requires
 fill-p-requires c κs = search needs
 
-slice-aggregate-section-7 : tie.Need-slice-aggregate-section-7
-slice-aggregate-section-7 c = search needs
+slice-aggregate-stage-7 : tie.Need-slice-aggregate-stage-7
+slice-aggregate-stage-7 c = search needs
 
-slice-aggregate-section-8 : tie.Need-slice-aggregate-section-8
-slice-aggregate-section-8 c = search needs
+slice-aggregate-stage-8 : tie.Need-slice-aggregate-stage-8
+slice-aggregate-stage-8 c = search needs
 
-slice-aggregate-section-9 : tie.Need-slice-aggregate-section-9
-slice-aggregate-section-9 c = search needs
+slice-aggregate-stage-9 : tie.Need-slice-aggregate-stage-9
+slice-aggregate-stage-9 c = search needs
 
-section-requires-3 : tie.Need-section-requires-3
-section-requires-3 c κs = search needs
+stage-requires-3 : tie.Need-stage-requires-3
+stage-requires-3 c κs = search needs
 
 invert-requires : tie.Need-invert-requires
 invert-requires c κs = search needs
@@ -91,25 +91,25 @@ returns c =
     let start = at-place .before .before .before .before in
     let done =
     chain-step beforeC2 between afterC1 placed (withQ qOf) (withP pOf) 24 1512 16 1536 refl refl refl refl (start .args .frame .now) (start .args .self .line)
-    (at-1 .section .last .1 .0)
-    (at-2 .section2 .last .1 .0)
-    (at-3 .section3 .last .1 .0)
+    (at-1 .stage .last .1 .0)
+    (at-2 .stage2 .last .1 .0)
+    (at-3 .stage3 .last .1 .0)
     (at-place .place .result)
-    (at-1 .section .last .1 .1 .1 .1 .0)
+    (at-1 .stage .last .1 .1 .1 .1 .0)
     (at-q .fill-q .result)
-    (at-2 .section2 .last .1 .1 .1 .1 .0)
+    (at-2 .stage2 .last .1 .1 .1 .1 .0)
     (at-p .fill-p .result)
-    (at-3 .section3 .last .1 .1 .1 .1 .0)
+    (at-3 .stage3 .last .1 .1 .1 .1 .0)
     (long start)
     (at-place .place .ensures)
-    (at-1 .section .ensures .0)
-    (at-1 .section .ensures .1)
+    (at-1 .stage .ensures .0)
+    (at-1 .stage .ensures .1)
     (at-q .fill-q .ensures)
-    (at-2 .section2 .ensures .0)
-    (at-2 .section2 .ensures .1)
+    (at-2 .stage2 .ensures .0)
+    (at-2 .stage2 .ensures .1)
     (at-p .fill-p .ensures)
-    (at-3 .section3 .ensures .0)
-    (at-3 .section3 .ensures .1) in (
+    (at-3 .stage3 .ensures .0)
+    (at-3 .stage3 .ensures .1) in (
       done .0,
       same-lengths (at-copy .copy .result) (length (at-invert .invert .result)) (length (start .args .out .now)) _ (at-invert .invert .result) _ (at-copy .copy .ensures) (omega (arith, made at-invert))
           ∙ at-invert .invert .ensures
@@ -121,20 +121,20 @@ go-spec =
     tie.close
     (tie.spec
     place-requires
-    slice-aggregate-section
-    slice-aggregate-section-2
-    slice-aggregate-section-3
-    section-requires
+    slice-aggregate-stage
+    slice-aggregate-stage-2
+    slice-aggregate-stage-3
+    stage-requires
     fill-q-requires
-    slice-aggregate-section-4
-    slice-aggregate-section-5
-    slice-aggregate-section-6
-    section-requires-2
+    slice-aggregate-stage-4
+    slice-aggregate-stage-5
+    slice-aggregate-stage-6
+    stage-requires-2
     fill-p-requires
-    slice-aggregate-section-7
-    slice-aggregate-section-8
-    slice-aggregate-section-9
-    section-requires-3
+    slice-aggregate-stage-7
+    slice-aggregate-stage-8
+    slice-aggregate-stage-9
+    stage-requires-3
     invert-requires
     slice-aggregate-copy
     copy-requires

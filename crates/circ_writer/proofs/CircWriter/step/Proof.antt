@@ -4,9 +4,9 @@ use mathlib.Core.Path.{ap₂, _∙_}
 use mathlib.Core.List.{[]}
 use Rattle.circ_writer.specs.declared.WriterAnswer.{WriterAnswer}
 use Rattle.circ_writer.specs.declared.CircWriter.{CircWriter}
-use Rattle.circ_writer.specs.Answers.{writerSay}
+use Rattle.circ_writer.specs.Answers.{sayOf}
 use Rattle.calls.specs.Step.{step}
-use Rattle.circ.specs.Step.{wrong-incoming, wrong-outgoing, right}
+use Rattle.circ.specs.Step.ByLengths.{wrong-incoming, wrong-outgoing, right}
 use borrow.Author.Needs.{needs}
 use Rattle.circ_writer.proofs.CircWriter.step.Statement.{statement}
 use Rattle.circ_writer.proofs.CircWriter.step.Tie as tie
@@ -23,7 +23,7 @@ same-length c = search needs
 returns : tie.Need-returns
 returns c =
     let start = c .before .before .before .before .before .before .before .before in
-    ap₂ (λ (a : WriterAnswer) (s : CircWriter). step (writerSay a) (s .line) (c .before .before .before .wipe .last .0)) (c .refuse .ensures .1) (c .refuse .ensures .0)
+    ap₂ (λ (a : WriterAnswer) (s : CircWriter). step (sayOf a) (s .line) (c .before .before .before .wipe .last .0)) (c .refuse .ensures .1) (c .refuse .ensures .0)
     ∙ wrong-incoming 24 32 [] _ _ (start .args .self .line) (start .args .frame .now) (start .args .out .now) (c .before .before .before .before .before .if1 .taken) _ (c .before .before .before .wipe .ensures)
 
 refuse-requires-2 : tie.Need-refuse-requires-2
@@ -32,7 +32,7 @@ refuse-requires-2 c κs = search needs
 returns-2 : tie.Need-returns-2
 returns-2 c =
     let start = c .before .before .before .before .before in
-    ap₂ (λ (a : WriterAnswer) (s : CircWriter). step (writerSay a) (s .line) (start .args .out .now)) (c .refuse2 .ensures .1) (c .refuse2 .ensures .0)
+    ap₂ (λ (a : WriterAnswer) (s : CircWriter). step (sayOf a) (s .line) (start .args .out .now)) (c .refuse2 .ensures .1) (c .refuse2 .ensures .0)
     ∙ wrong-outgoing 24 32 [] _ _ (start .args .self .line) (start .args .frame .now) (start .args .out .now) (c .before .before .if1 .left) (c .before .if2 .taken)
 
 go-requires : tie.Need-go-requires

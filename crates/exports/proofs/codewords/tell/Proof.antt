@@ -1,4 +1,4 @@
--- `codewords::tell` meets its contract: each arm is a case of `sayVerdict`, told.
+-- `codewords::tell` meets its contract: each arm is a case of `sayOf`, told.
 -- Assumes nothing.
 use borrow.Author.Needs.{needs}
 use mathlib.Core.Path.{refl}

@@ -1,0 +1,12 @@
+-- What the laws above need on their way, over any two codes that are as `Coding` and `Correcting` ask. No promise cites it.
+-- Assumes nothing.
+pub mod Coding
+pub mod Codes
+pub mod Tables
+pub mod Words
+pub mod WriterWords
+pub mod WriterRows
+pub mod ReaderRows
+pub mod Mended
+pub mod ThereAndBack
+pub mod Settled

@@ -1,0 +1,39 @@
+-- Streams of frames through a fresh CIRC writer and a fresh CIRC reader: one frame at each step, counted from 0.
+-- Assumes nothing.
+use mathlib.Core.Path.{_≡_}
+use mathlib.Core.List.{List}
+use Prim.Native.Nat.{ℕ}
+use lib.ListN.{length}
+use Rattle.outcome.specs.Bytes.{Bytes}
+use Rattle.circ.specs.Chains.{written, readerAt, readerOut, readerDoubt}
+use Rattle.circ.specs.Codes.{qOf, pOf, corrected, lost}
+pub mod Steps
+pub mod Rows
+pub mod ThereAndBack
+pub mod Fresh
+pub mod Damage
+
+-- F1-frames: 24 bytes at each step
+pub record F1Frames (f : ℕ → List ℕ) : Type 0 where
+  pub long : (n : ℕ) → length (f n) ≡ 24
+  pub bytes : (n : ℕ) → Bytes (f n)
+
+-- F2-frames: 32 bytes at each step
+pub record F2Frames (g : ℕ → List ℕ) : Type 0 where
+  pub long : (n : ℕ) → length (g n) ≡ 32
+  pub bytes : (n : ℕ) → Bytes (g n)
+
+-- what a fresh writer makes of them at step n
+abbrev pub f2At : (ℕ → List ℕ) → ℕ → List ℕ
+f2At f n = written qOf pOf f n
+
+-- what a fresh reader gives at step n for the F2-frames g, and its doubt mark
+abbrev pub f1At : (ℕ → List ℕ) → ℕ → List ℕ
+f1At g n = readerOut corrected corrected lost (readerAt corrected corrected lost g n) (g n)
+
+abbrev pub doubtAt : (ℕ → List ℕ) → ℕ → ℕ
+doubtAt g n = readerDoubt corrected corrected lost (readerAt corrected corrected lost g n) (g n)
+
+-- how many steps a frame is on its way: its bytes wait 1, 108 and 2 frames around C1, between C1 and C2, around C2
+abbrev pub roundTrip : ℕ
+roundTrip = 111

@@ -1,0 +1,47 @@
+-- What each export promises allows one outcome: `told-one` with the law of the entry that it hands over to. The other exports promise an
+-- equation for all that they hand back, or name one thing (`Parities`; the inverse of a byte: field, `inverse-of-one`).
+-- Assumes nothing.
+use mathlib.Core.Path.{_≡_, refl, sym, ap, _∙_}
+use mathlib.Core.List.{List}
+use Prim.Native.Nat.{ℕ}
+use Rattle.outcome.specs.Say.{Say, Outcome, outcome}
+use Rattle.calls.specs.Step.{Step, step}
+use Rattle.address.specs.declared.HeaderTime.{HeaderTime}
+use Rattle.writer.specs.Write.{Writes}
+use Rattle.writer.specs.Write.One.{write-one}
+use Rattle.repair.specs.Repair.{Repairs}
+use Rattle.repair.specs.Repair.One.{repair-one}
+use Rattle.section_reader.specs.ReadSay.{ReadOut, readOut}
+use Rattle.told.specs.Told.{Told}
+use Rattle.told.specs.Told.One.{told-one}
+
+module _ {x y : ℕ} {v w : List ℕ} where
+  -- verdicts, and judging
+  pub said-one : (n : ℕ) (o : Say) → Told n (λ say. say ≡ o) x v → Told n (λ say. say ≡ o) y w → (x ≡ y) × (v ≡ w)
+  said-one n o p q = let same = told-one {Same = n ≡ n} (λ a b e f. (e ∙ sym f, refl)) p q in (same .0, same .1)
+
+  -- scrambling, cutting, joining
+  pub left-one : (o : Outcome) (s t : List ℕ) → Told 0 (λ say. outcome say s ≡ o) x v → Told 0 (λ say. outcome say t ≡ o) y w → (x ≡ y) × (v ≡ w) × (s ≡ t)
+  left-one o s t = told-one (λ a b e f. (ap (λ (z : Outcome). z .say) (e ∙ sym f), ap (λ (z : Outcome). z .out) (e ∙ sym f)))
+
+  -- writing a Sector
+  pub written-one : (mode : ℕ) (time : HeaderTime) (user old s t : List ℕ) → Told 0 (λ say. Writes mode time user old say s) x v
+      → Told 0 (λ say. Writes mode time user old say t) y w → (x ≡ y) × (v ≡ w) × (s ≡ t)
+  written-one mode time user old s t = told-one (λ a b p q. write-one mode time user old p q)
+
+  -- repair, with the number of bytes changed
+  pub repaired-one : (received old s t : List ℕ) → Told 1 (λ say. Repairs received old say s) x v → Told 1 (λ say. Repairs received old say t) y w
+      → (x ≡ y) × (v ≡ w) × (s ≡ t)
+  repaired-one received old s t = told-one (λ a b p q. repair-one received old p q)
+
+  -- writing a Section, with the state after it
+  pub step-one : {S : Type 0} (o : Step S) (m n : S) (s t : List ℕ) → Told 0 (λ say. step say m s ≡ o) x v → Told 0 (λ say. step say n t ≡ o) y w
+      → (x ≡ y) × (v ≡ w) × ((m ≡ n) × (s ≡ t))
+  step-one {S} o m n s t =
+      told-one (λ a b e f. (ap (λ (z : Step S). z .say) (e ∙ sym f), (ap (λ (z : Step S). z .next) (e ∙ sym f), ap (λ (z : Step S). z .out) (e ∙ sym f))))
+
+  -- reading a Section, bytes and marks
+  pub read-one : (o : ReadOut) (s t m n : List ℕ) → Told 0 (λ say. readOut say s m ≡ o) x v → Told 0 (λ say. readOut say t n ≡ o) y w
+      → (x ≡ y) × (v ≡ w) × ((s ≡ t) × (m ≡ n))
+  read-one o s t m n =
+      told-one (λ a b e f. (ap (λ (z : ReadOut). z .say) (e ∙ sym f), (ap (λ (z : ReadOut). z .bytes) (e ∙ sym f), ap (λ (z : ReadOut). z .marks) (e ∙ sym f))))
