@@ -1,5 +1,6 @@
-//! The stored reports of the program crates are what the second program reports of their stored input. What the proofs leave to a run is
-//! run here: that the program takes what the C library reads for what it is, and says on standard error what failed.
+//! The stored reports (that of the program crate, and those in `reports`) are what the second program reports of their stored input, and
+//! what the proved program prints. What the proofs leave to a run is run here: that the program takes what the C library reads for what it
+//! is, and says on standard error what failed.
 
 use second::report::report;
 use second::sector::{write, LENGTH};
@@ -10,13 +11,14 @@ use std::process::{Child, Command, Output, Stdio};
 use std::thread;
 use std::time::Duration;
 
-fn crates() -> PathBuf {
-    Path::new(env!("CARGO_MANIFEST_DIR")).join("../crates")
+/// A path from the second program's folder.
+fn at(path: &str) -> PathBuf {
+    Path::new(env!("CARGO_MANIFEST_DIR")).join(path)
 }
 
 /// The proved program, which `rt check report` builds.
 fn program() -> Command {
-    let path = Path::new(env!("CARGO_MANIFEST_DIR")).join("../target/bin/report");
+    let path = at("../target/bin/report");
     assert!(path.exists(), "{} is missing: run `rt check report`", path.display());
     let mut program = Command::new(path);
     program.stdout(Stdio::piped()).stderr(Stdio::piped());
@@ -37,20 +39,26 @@ fn text(bytes: &[u8]) -> &str {
     std::str::from_utf8(bytes).expect("a report is text")
 }
 
+/// Thirteen Sectors of every fate with a tail; nothing; document 01's 4,709 zeros; 1,003 Sectors.
 #[test]
-fn stored_reports_are_those_of_the_second_program() {
-    for name in ["report", "report_empty", "report_zeros", "report_many"] {
-        let image = fs::read(crates().join(name).join("stdin")).expect("stored input");
-        let printed =
-            fs::read_to_string(crates().join(name).join("stdout")).expect("stored output");
-        assert!(report(&image) == printed, "{name}");
+fn stored_reports_are_those_of_both_programs() {
+    for name in
+        ["../crates/report", "tests/reports/empty", "tests/reports/zeros", "tests/reports/many"]
+    {
+        let input = at(name).join("stdin");
+        let stored = fs::read_to_string(at(name).join("stdout")).expect("stored output");
+        assert!(report(&fs::read(&input).expect("stored input")) == stored, "{name}");
+        let input = File::open(&input).expect("stored input");
+        let output = program().stdin(input).output().expect("the program runs");
+        assert!(text(&output.stdout) == stored, "{name}");
+        assert_eq!(text(&output.stderr), "", "{name}");
     }
 }
 
 /// The program waits for each chunk, so most of its reads bring less than it asks for.
 #[test]
 fn short_reads_change_nothing() {
-    let image = fs::read(crates().join("report/stdin")).expect("stored input");
+    let image = fs::read(at("../crates/report/stdin")).expect("stored input");
     let expected = report(&image);
     let output = fed(move |pipe| {
         let mut rest = image.as_slice();
@@ -70,7 +78,7 @@ fn short_reads_change_nothing() {
 
 #[test]
 fn a_folder_cannot_be_read() {
-    let folder = File::open(crates()).expect("a folder opens");
+    let folder = File::open(at("../crates")).expect("a folder opens");
     let output = program().stdin(folder).output().expect("the program runs");
     assert_eq!(text(&output.stdout), "cd sectors 1\n");
     assert_eq!(text(&output.stderr), "report: standard input could not be read\n");

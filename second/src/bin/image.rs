@@ -1,4 +1,5 @@
-//! Writes an image of Sectors to standard output: the stored input of the program crates `report` (`mixed`) and `report_many` (`many`).
+//! Writes an image of Sectors to standard output: the stored input of the program crate `report` (`mixed`) and of `tests/reports/many`
+//! (`many`).
 
 use second::random::Random;
 use second::sector::write;
