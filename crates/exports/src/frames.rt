@@ -2,11 +2,11 @@
 ghost use mathlib.Core.Path.{_≡_};
 ghost use mathlib.Core.List.{[]};
 ghost use Rattle.outcome.specs.Say.{outcome};
-ghost use Rattle.scrambling.specs.Entry.{sayOf};
-ghost use Rattle.scrambling.specs.Frames.{cutting, joining};
+ghost use Rattle.entry.specs.Entry.{sayOf};
+ghost use Rattle.f1_frames.specs.Frames.{cutting, joining};
 ghost use Rattle.scrambling.specs.Scramble.{scrambling};
 ghost use Rattle.told.specs.Told.{numberOf, Told};
-use scrambling::Answer;
+use entry::Answer;
 
 fn tell(a: Answer) -> u8
     ensures { λ r. ⌜ r ≡ numberOf (sayOf a) ⌝ }
@@ -29,12 +29,12 @@ pub extern "C" fn road_scramble(sector: &[u8], out: &mut [u8]) -> u8
 pub extern "C" fn road_cut(scrambled: &[u8], out: &mut [u8]) -> u8
     ensures { λ r. ⌜ Told 0 (λ say. outcome say (now (out .exit)) ≡ cutting (now (scrambled .entry)) (now (out .entry))) r [] ⌝ }
 {
-    tell(scrambling::cut(scrambled, out))
+    tell(f1_frames::cut(scrambled, out))
 }
 
 #[no_mangle]
 pub extern "C" fn road_join(frames: &[u8], out: &mut [u8]) -> u8
     ensures { λ r. ⌜ Told 0 (λ say. outcome say (now (out .exit)) ≡ joining (now (frames .entry)) (now (out .entry))) r [] ⌝ }
 {
-    tell(scrambling::join(frames, out))
+    tell(f1_frames::join(frames, out))
 }

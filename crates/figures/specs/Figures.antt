@@ -10,7 +10,7 @@ use Rattle.outcome.specs.Table.{allBelow}
 use Rattle.field.specs.Field.{timesAlpha, power, mulBits, mul}
 use Rattle.codeword.specs.Code.{sum}
 use Rattle.rspc.specs.Words.{place, pNumber, qNumber, pWord}
-use Rattle.scrambling.specs.Sequence.{sequence, bit, register, next}
+use Rattle.sequence.specs.Sequence.{sequence, bit, register, next}
 use Rattle.circ.specs.Rows.{rowDelay, beforeC2, between, afterC1}
 use Rattle.circ_streams.specs.Streams.{f2At}
 use Rattle.circ_streams.specs.Streams.Fresh.{zero-frames}

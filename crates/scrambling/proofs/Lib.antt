@@ -1,4 +1,1 @@
-mod Exchanging
 mod Masked
-mod Shifting
-mod Working

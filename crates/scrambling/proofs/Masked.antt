@@ -12,9 +12,9 @@ use lib.ListN.{length, take, drop, length-drop}
 use lib.Seq.{take-all}
 use Rattle.outcome.specs.Buffer.Part.{end-back}
 use Rattle.xor.specs.Added.{added}
-use Rattle.scrambling.specs.Sequence.Follows.{length-sequence}
+use Rattle.sequence.specs.Sequence.Follows.{length-sequence}
 use Rattle.scrambling.specs.Scramble.{scrambled}
-use Rattle.scrambling.specs.Sequence.{sequence}
+use Rattle.sequence.specs.Sequence.{sequence}
 use Rattle.outcome.specs.Buffer.Lengths.{same-lengths}
 
 -- a part that reaches to the end

@@ -5,8 +5,8 @@ use Prim.Native.Nat.{ℕ, _+_}
 use lib.ListN.{take, drop}
 use Rattle.outcome.specs.Say.{Outcome}
 use Rattle.xor.specs.Added.{added}
-use Rattle.scrambling.specs.Entry.{answering}
-use Rattle.scrambling.specs.Sequence.{sequence}
+use Rattle.entry.specs.Entry.{answering}
+use Rattle.sequence.specs.Sequence.{sequence}
 pub mod Twice
 
 -- added modulo 2 to the sequence from byte 12 on

@@ -1,0 +1,2 @@
+-- document 01's numbers
+pub mod Entry

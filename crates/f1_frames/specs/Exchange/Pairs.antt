@@ -1,0 +1,45 @@
+-- Laws of the exchange of pairs: it undoes itself, and where each byte goes.
+-- Assumes nothing.
+use mathlib.Core.Path.{_≡_, refl, ap, _∙_}
+use mathlib.Core.List.{List, [], _∷_, _++_}
+use Prim.Native.Nat.{ℕ, zero, suc, _+_, _-_, _*_, _/_, _<_}
+use native.Mathlib.Omega.{arith}
+use lib.ListN.{length, getD}
+use Rattle.outcome.specs.Bytes.{Bytes}
+use Rattle.outcome.specs.Bytes.Kept.{bytes-cons}
+use Rattle.f1_frames.specs.Exchange.{exchanged, other}
+
+pub length-exchanged : (w : List ℕ) → length (exchanged w) ≡ length w
+length-exchanged [] = refl
+length-exchanged (a ∷ []) = refl
+length-exchanged (a ∷ (b ∷ w)) = ap (λ (n : ℕ). suc (suc n)) (length-exchanged w)
+
+pub exchanged-twice : (w : List ℕ) → exchanged (exchanged w) ≡ w
+exchanged-twice [] = refl
+exchanged-twice (a ∷ []) = refl
+exchanged-twice (a ∷ (b ∷ w)) = ap (λ (t : List ℕ). a ∷ (b ∷ t)) (exchanged-twice w)
+
+pub bytes-exchanged : (w : List ℕ) → Bytes w → Bytes (exchanged w)
+bytes-exchanged [] h = h
+bytes-exchanged (a ∷ []) h = h
+bytes-exchanged (a ∷ (b ∷ w)) h =
+    bytes-cons b (a ∷ exchanged w) (h 1) (bytes-cons a (exchanged w) (h 0) (bytes-exchanged w (λ i. h (suc (suc i)))))
+
+-- each place of a whole pair has what stood at the other
+pub exchanged-at : (w : List ℕ) (i : ℕ) → i / 2 * 2 + 1 < length w → getD (exchanged w) i 0 ≡ getD w (other i) 0
+exchanged-at [] i h = absurd (omega arith)
+exchanged-at (a ∷ []) i h = absurd (omega arith)
+exchanged-at (a ∷ (b ∷ w)) zero h = refl
+exchanged-at (a ∷ (b ∷ w)) (suc zero) h = refl
+exchanged-at (a ∷ (b ∷ w)) (suc (suc i)) h =
+    exchanged-at w i (omega arith) ∙ ap (λ (j : ℕ). getD (a ∷ (b ∷ w)) j 0) (two-on i)
+  where
+    two-on : (i : ℕ) → suc (suc (other i)) ≡ other (suc (suc i))
+    two-on i = omega arith
+
+-- a list of whole pairs is exchanged by itself
+pub exchanged-append : (k : ℕ) (v w : List ℕ) → length v ≡ 2 * k → exchanged (v ++ w) ≡ exchanged v ++ exchanged w
+exchanged-append k [] w h = refl
+exchanged-append k (a ∷ []) w h = absurd (omega arith)
+exchanged-append zero (a ∷ (b ∷ v)) w h = absurd (omega arith)
+exchanged-append (suc k) (a ∷ (b ∷ v)) w h = ap (λ (t : List ℕ). b ∷ (a ∷ t)) (exchanged-append k v w (omega arith))

@@ -1,0 +1,3 @@
+-- clause 16
+pub mod Exchange
+pub mod Frames

@@ -1,0 +1,2 @@
+mod Shifting
+mod Working

@@ -1,0 +1,2 @@
+-- Annex B
+pub mod Sequence
