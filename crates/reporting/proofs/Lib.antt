@@ -1,4 +1,2 @@
-pub mod Answers
-pub mod Filling
 pub mod Steps
 pub mod Ends

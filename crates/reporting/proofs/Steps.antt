@@ -15,12 +15,13 @@ use Rattle.text.specs.Counting.Room.{one-more}
 use Rattle.text.specs.Line.{Holds, written}
 use Rattle.text.specs.Line.More.{holds-written}
 use Rattle.text.specs.Report.{firstLine, fateLine, lastLine}
+use Rattle.reading.specs.declared.Read.{Read}
+use Rattle.reading.specs.declared.Read.the-variants.{Failed, End, More}
+use Rattle.reading.specs.Reading.{StoppedAt}
 use Rattle.reporting.specs.declared.Progress.{Progress}
-use Rattle.reporting.specs.declared.reading.Read.{Read}
-use Rattle.reporting.specs.declared.reading.Read.the-variants.{Failed, End, More}
 use Rattle.reporting.specs.declared.Stand.{Stand}
 use Rattle.reporting.specs.declared.Stand.the-variants.{Opening, Going, AtEnd, Closing, Done, ReadFailed, WriteFailed}
-use Rattle.reporting.specs.Reading.{StoppedAt, standOf}
+use Rattle.reporting.specs.Reading.{standOf}
 use Rattle.reporting.specs.Run.{
   Step,
   opens,

@@ -1,35 +1,11 @@
--- What an answer of the C library's `read` means, and how far a buffer is filled.
+-- How a report stands after reading a Sector.
 -- Assumes nothing.
-use mathlib.Core.Path.{_≡_}
-use Prim.Native.Nat.{ℕ, zero, suc, _<_}
-use lib.IntN.{ℤ, pos, negsuc}
-use Rattle.libc.specs.Io.{Moved}
-use Rattle.reporting.specs.declared.reading.Filled.{Filled}
-use Rattle.reporting.specs.declared.reading.Read.{Read}
-use Rattle.reporting.specs.declared.reading.Read.the-variants.{Failed, End, More}
+use Prim.Native.Nat.{ℕ}
+use Rattle.reading.specs.declared.Filled.{Filled}
+use Rattle.reading.specs.declared.Read.{Read}
+use Rattle.reading.specs.declared.Read.the-variants.{Failed, End, More}
 use Rattle.reporting.specs.declared.Stand.{Stand}
 use Rattle.reporting.specs.declared.Stand.the-variants.{Going, AtEnd, ReadFailed}
-
--- failed exactly if it is negative, at the end exactly if it is 0, and else so many bytes more
-abbrev pub meaningOf : ℤ → Read
-meaningOf (negsuc k) = Failed
-meaningOf (pos zero) = End
-meaningOf (pos (suc k)) = More (suc k)
-
--- what a read into so much room may say
-pub record Brought (room : ℕ) (read : Read) : Type 0 where
-  pub got : ℤ
-  pub moved : Moved room got
-  pub is : read ≡ meaningOf got
-
--- reading stopped exactly where the buffer was full, or the last read brought nothing
-abbrev pub StoppedAt : ℕ → ℕ → Read → Type 0
-StoppedAt room have (More n) = have ≡ room
-StoppedAt room have End = have < room
-StoppedAt room have Failed = have < room
-
-abbrev pub Fills : ℕ → Filled → Type 0
-Fills room f = StoppedAt room (f .have) (f .last)
 
 -- a whole Sector: the report goes on; the input's end: it is there, with what was read left over; and a failure ends it
 abbrev pub standOf : ℕ → Read → Stand

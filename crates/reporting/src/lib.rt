@@ -1,14 +1,16 @@
 // The report (document 01) from standard input to standard output. What one read means stands in `reading`, what is printed and what
 // then follows in `saying`; the fate of a Sector is decided in `fate`, every character of a line in `text`.
-mod reading;
 mod saying;
 
 ghost use mathlib.Core.Path.{_≡_};
 ghost use Prim.Native.Nat.{_<_};
 ghost use lib.ListN.{length};
 ghost use Rattle.text.specs.Counting.{largest};
+ghost use Rattle.reporting.specs.Reading.{standAfter};
 ghost use Rattle.reporting.specs.Run.{Goes, isOver, Turning, Reported};
 use libc::STDERR_FILENO;
+use reading::Filled;
+use reading::Read;
 use text::Counts;
 
 // How a report stands: before its first line; between two Sectors; at the input's end with so many bytes left over; before its last
@@ -44,13 +46,25 @@ fn over(stand: Stand) -> bool
     }
 }
 
+// How a report stands that was between two Sectors: it goes on only with a whole one.
+fn stand_after(filled: Filled) -> Stand
+    ensures { λ r. ⌜ r ≡ standAfter filled ⌝ }
+{
+    let last = filled.last;
+    match last {
+        Read::More(_) => Stand::Going,
+        Read::End => Stand::AtEnd(filled.have as u64),
+        Read::Failed => Stand::ReadFailed,
+    }
+}
+
 // Reads one Sector and prints its line.
 fn turn(counts: Counts, sector: &mut [u8]) -> Progress
     requires { ⌜ (length (now sector) ≡ 2352) × (counts .sectors < largest) ⌝ }
     ensures { λ r. ⌜ Goes Stand.Going counts (r .stand) (r .counts) ⌝ }
 {
-    let filled = reading::read_sector(sector);
-    let stand = reading::stand_after(filled);
+    let filled = reading::fill(sector);
+    let stand = stand_after(filled);
     if over(stand) {
         return Progress { counts, stand };
     }

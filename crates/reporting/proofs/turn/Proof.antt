@@ -6,8 +6,8 @@ use Rattle.reporting.proofs.Steps.{stops}
 use Rattle.reporting.proofs.turn.Statement.{statement}
 use Rattle.reporting.proofs.turn.Tie as tie
 
-read-sector-requires : tie.Need-read-sector-requires
-read-sector-requires c κs = search needs
+fill-requires : tie.Need-fill-requires
+fill-requires c κs = search needs
 
 stand-after-requires : tie.Need-stand-after-requires
 stand-after-requires c κs = search needs
@@ -21,7 +21,7 @@ same-length c = search needs
 returns : tie.Need-returns
 returns c =
     let s = c .before .before .before .before .before .before .before .before in
-    let f = c .before .before .before .before .before .read-sector in
+    let f = c .before .before .before .before .before .fill in
     stops
     (s .args .counts)
     _
@@ -46,7 +46,7 @@ pub turn-spec : {M : Type 1} → statement M
 turn-spec =
     tie.close
     (tie.spec
-    read-sector-requires
+    fill-requires
     stand-after-requires
     over-requires
     same-length
