@@ -25,6 +25,7 @@ bytes-as (x ∷ w) (suc i) = bytes-as w i
 parity : (a b : List ℕ) → (p : List ℕ) × Parity 4 p (asBytes a ++ (p ++ asBytes b))
 parity a b = four-exist (asBytes a) (asBytes b) (bytes-as a) (bytes-as b)
 
+-- these four bytes
 pub parityBetween : List ℕ → List ℕ → List ℕ
 parityBetween a b = parity a b .0
 
@@ -46,6 +47,7 @@ abbrev pub markOf : Option (List ℕ) → ℕ
 markOf (some c) = 0
 markOf none = 1
 
+-- what the code hands on for a word, and the word's mark
 unfoldable pub corrected : List ℕ → List ℕ
 corrected w = handedOn w (nearest 4 w)
 

@@ -10,10 +10,10 @@ use lib.Seq.{drop-append-le, length-take-le}
 use Rattle.outcome.specs.First.Found.{lt-or-le}
 use Rattle.lines.specs.Delay.{lineNext, rowsOut, rowsNext}
 use Rattle.lines.specs.Delay.Lengths.{length-next}
-use Rattle.lines.proofs.Going.{Going}
+use Rattle.lines.proofs.StepLeft.{StepLeft}
 
 -- the store is as long after the shift
-pub done-length : {lens line₀ word₀ line word : List ℕ} {at carry k : ℕ} → Going lens line₀ word₀ line word at carry k
+pub done-length : {lens line₀ word₀ line word : List ℕ} {at carry k : ℕ} → StepLeft lens line₀ word₀ line word at carry k
     → (part : List ℕ) → part ≡ lineNext (take at line) carry → length (part ++ drop at line) ≡ length line₀
 done-length {line = line} {at = at} {carry = carry} g part e =
     omega (
@@ -41,7 +41,7 @@ none-next (d ∷ ds) s [] h = refl
 none-next (d ∷ ds) s (x ∷ w) (inl e) = let z : _≡_ {A = ℕ} 0 1 = cc in absurd (omega arith)
 none-next (d ∷ ds) s (x ∷ w) (inr e) = let z : _≡_ {A = ℕ} 0 1 = cc in absurd (omega arith)
 
-module _ {lens line₀ word₀ line word : List ℕ} {at carry k : ℕ} (g : Going lens line₀ word₀ line word at carry k)
+module _ {lens line₀ word₀ line word : List ℕ} {at carry k : ℕ} (g : StepLeft lens line₀ word₀ line word at carry k)
     (h : length lens - (length lens - length word₀) ≤ k) where
   spent : (drop k lens ≡ []) ⊎ (drop k word ≡ [])
   spent = ⊎-elim

@@ -48,5 +48,6 @@ module _ (d₁ d₂ d₃ : List ℕ) (g₁ g₂ g₃ : List ℕ → List ℕ) wh
   abbrev pub stream₂ : (ℕ → List ℕ) → ℕ → List ℕ
   stream₂ f n = outAt d₂ (λ m. g₂ (stream₁ f m)) n
 
+  -- what the chain gives at step n
   unfoldable pub chained : (ℕ → List ℕ) → ℕ → List ℕ
   chained f n = outAt d₃ (λ m. g₃ (stream₂ f m)) n

@@ -11,6 +11,7 @@ abbrev pub numberOf : Say → ℕ
 numberOf (done vs) = 0
 numberOf (refused n vs) = n
 
+-- the values that come with it
 abbrev pub valuesOf : Say → List ℕ
 valuesOf (done vs) = vs
 valuesOf (refused n vs) = vs

@@ -29,6 +29,7 @@ writer-calls cs f e =
     ap (λ (s : List ℕ). doneOf (run writerDoes s cs)) (sym (writer-fresh f))
     ∙ done-along 24 32 (λ s w. []) (writerOut qOf pOf) (writerNext qOf pOf) f (writerAt qOf pOf f) _ (λ n. refl) (writer-step f) cs e
 
+-- the same of the reader, with its doubt marks
 pub reader-calls : (cs : List Call) (g : ℕ → List ℕ) → readerFrames cs ≡ firsts g 0 (length (readerFrames cs))
     → readerDone cs ≡ firsts (λ n. step (done (doubtAt g n ∷ [])) (readerAt corrected corrected lost g (suc n)) (f1At g n)) 0 (length (readerFrames cs))
 reader-calls cs g e =

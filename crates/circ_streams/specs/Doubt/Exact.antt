@@ -39,6 +39,7 @@ module _ (g : ℕ → List ℕ) (frames : F2Frames g) where
       by (inl (e, h)) = inl (e, (omega arith, h))
       by (inr (e, h)) = inr (e, λ k. h (k .1))
 
+  -- the mark of step n marks that its frame is doubted
   pub doubt-exact : (n : ℕ) → Marks (doubtAt g n) (Doubted g n)
   doubt-exact n =
       rw (doubt-read corrected corrected lost length-corrected length-corrected g (frames .long) n)

@@ -19,6 +19,7 @@ use Rattle.circ_streams.specs.Inner.Coding.{Coding, Correcting}
 use Rattle.circ.specs.Codes.{qOf, pOf, handedOn, markOf, corrected, lost}
 use Rattle.circ.specs.Codes.Parities.{four-bytes, bytes-parity, q-parity, p-parity}
 
+-- the Q and P bytes make codewords
 pub circ-coding : Coding (Codeword 4) qOf pOf
 unfolding qOf pOf
 circ-coding =
@@ -31,6 +32,7 @@ circ-coding =
       code-p = λ w e h. p-parity w h .code;
     }
 
+-- the code keeps codewords, and does not mark them
 pub circ-correcting : Correcting (Codeword 4) corrected corrected lost
 unfolding corrected lost
 circ-correcting =

@@ -37,6 +37,7 @@ module _ {C : List ℕ → Type 0} {q p fix₁ fix₂ : List ℕ → List ℕ} {
   abbrev C2 : ℕ → List ℕ
   C2 n = c2Word q p f n
 
+  -- they are codewords of 32 bytes
   pub length-late : (n : ℕ) → length (lateC1 q p f n) ≡ 32
   length-late n = back-all (λ t. length t ≡ 32) (replicate 32 0) C1 1 n (length-replicate {A = ℕ} 32 0) (length-c1 code f)
 

@@ -26,6 +26,7 @@ rows-read fix₁ fix₂ mark g n = chain-law readerBeforeC1 readerBetween reader
 -- ---- the words that a reader meets
 
 module _ (g : ℕ → List ℕ) (long : (n : ℕ) → length (g n) ≡ 32) where
+  -- 32 bytes, as the frames are
   pub length-met-c1 : (n : ℕ) → length (metC1 g n) ≡ 32
   unfolding metC1
   length-met-c1 n = length-out readerBeforeC1 (λ m. inverted (g m)) n ∙ length-inverted (g n) (long n)
@@ -41,6 +42,7 @@ module _ (g : ℕ → List ℕ) (long : (n : ℕ) → length (g n) ≡ 32) where
     unfolding throughC1
     length-through-c1 n = length-take-le 28 (fix₁ (metC1 g n)) (omega (arith, same₁ (metC1 g n), length-met-c1 n))
 
+    -- 28 bytes
     pub length-met-c2 : (n : ℕ) → length (metC2 fix₁ g n) ≡ 28
     unfolding metC2
     length-met-c2 n = length-out readerBetween (λ m. throughC1 fix₁ (metC1 g m)) n ∙ length-through-c1 n

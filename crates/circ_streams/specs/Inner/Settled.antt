@@ -42,6 +42,7 @@ with-p-zeros = ap (λ (p : List ℕ). zeros 28 ++ p) p-zeros
 
 -- ---- the writer
 
+-- a zero F1-frame leaves a fresh writer fresh, and makes the F2-frame of zeros, parity inverted
 pub writer-settled : writerNext qOf pOf freshWriter (zeros 24) ≡ freshWriter
 unfolding writerNext beforeC2 between afterC1 total
 writer-settled =
@@ -70,6 +71,7 @@ mask-inverted : inverted mask ≡ zeros 32
 unfolding inverted mask
 mask-inverted = refl
 
+-- that F2-frame leaves a fresh reader fresh
 pub reader-settled : readerNext corrected corrected lost freshReader mask ≡ freshReader
 unfolding readerNext readerBeforeC1 readerBetween readerAfterC2 total
 reader-settled =
@@ -86,6 +88,7 @@ rows-zero =
     c1-zeros
     c2-zeros
 
+-- and gives zeros, without doubt
 pub reader-zeros : readerOut corrected corrected lost freshReader mask ≡ zeros 24
 reader-zeros = ap collected rows-zero
 

@@ -18,10 +18,12 @@ use Rattle.circ.specs.Rows.{picked, firstTwelve, lastTwelve, placed, rowsOfByte
 
 -- ---- what the waits of a row add up to in writer and reader
 
+-- 1 frame around C1 in every row
 pub around-c1 : (r : ℕ) → r < 32 → getD afterC1 r 0 + getD readerBeforeC1 r 0 ≡ 1
 unfolding afterC1 readerBeforeC1
 around-c1 r h = eqb→eq (getD afterC1 r 0 + getD readerBeforeC1 r 0) 1 (below (λ r. eqb (getD afterC1 r 0 + getD readerBeforeC1 r 0) 1) 32 tt r h)
 
+-- 108 between C1 and C2
 pub around-between : (r : ℕ) → r < 28 → getD between r 0 + getD readerBetween r 0 ≡ longestWait
 unfolding between readerBetween
 around-between r h =
@@ -50,6 +52,7 @@ module _ (b : ℕ) (h : b < 24) where
   pub byte-carried : Carries (getD rowsOfBytes b 0)
   byte-carried = carries-test (getD rowsOfBytes b 0) (below (λ b. carriesTest (getD rowsOfBytes b 0)) 24 tt b h)
 
+  -- and 2 around C2
   pub around-c2 : getD beforeC2 (getD rowsOfBytes b 0) 0 + getD readerAfterC2 (getD rowsOfBytes b 0) 0 ≡ 2
   unfolding beforeC2 readerAfterC2
   around-c2 =
@@ -63,6 +66,7 @@ map-at g [] i h = absurd (not-suc-le-zero h)
 map-at g (x ∷ l) zero h = refl
 map-at g (x ∷ l) (suc i) h = map-at g l i (le-of-suc-le-suc h)
 
+-- each F1 byte is that of its row
 pub collected-at : (u : List ℕ) (b : ℕ) → b < 24 → getD (collected u) b 0 ≡ getD u (getD rowsOfBytes b 0) 0
 collected-at u b h = map-at (λ r. getD u r 0) rowsOfBytes b h
 
@@ -103,10 +107,12 @@ bytes-placed f h =
 
 -- ---- parity inverted
 
+-- no F1 byte is inverted
 pub mask-data : (b : ℕ) → b < 24 → getD mask (getD rowsOfBytes b 0) 0 ≡ 0
 unfolding mask
 mask-data b h = eqb→eq (getD mask (getD rowsOfBytes b 0) 0) 0 (below (λ b. eqb (getD mask (getD rowsOfBytes b 0) 0) 0) 24 tt b h)
 
+-- every Q byte and every P byte is
 pub mask-parity : (i : ℕ) → i < 4 → (getD mask (12 + i) 0 ≡ 255) × (getD mask (28 + i) 0 ≡ 255)
 unfolding mask
 mask-parity i h = (
@@ -118,6 +124,7 @@ pub length-inverted : (w : List ℕ) → length w ≡ 32 → length (inverted w)
 unfolding inverted mask
 length-inverted w e = length-added w mask e ∙ e
 
+-- twice inverted is as it was
 pub inverted-twice : (w : List ℕ) → length w ≡ 32 → inverted (inverted w) ≡ w
 unfolding inverted mask
 inverted-twice w e = added-twice w mask (omega arith)

@@ -36,8 +36,10 @@ module _ {C : List ℕ → Type 0} {q p fix₁ fix₂ : List ℕ → List ℕ} {
       ap fix₁ (met n)
       ∙ fix .keeps₁ (lateC1 q p f n) (length-late code fix f f24 fb n) (bytes-late code fix f f24 fb n) (code-late code fix f f24 fb n)
 
+  -- the frame of 111 steps before, zeros before the start
   pub there-and-back : (n : ℕ) → readerOut fix₁ fix₂ mark (readerAt fix₁ fix₂ mark W n) (W n) ≡ back (replicate 24 0) f roundTrip n
   there-and-back n = mended-back code fix f f24 fb W kept n
 
+  -- and no doubt
   pub without-doubt : (n : ℕ) → readerDoubt fix₁ fix₂ mark (readerAt fix₁ fix₂ mark W n) (W n) ≡ 0
   without-doubt n = mended-sure code fix f f24 fb W kept n

@@ -37,6 +37,7 @@ module _ {C : List ℕ → Type 0} {q p : List ℕ → List ℕ} (code : Coding 
   length-before : (n : ℕ) → length (before n) ≡ 28
   length-before n = length-out beforeC2 (λ m. placed (f m)) n ∙ length-placed (f n)
 
+  -- a C2 word has 28 bytes
   pub length-c2 : (n : ℕ) → length (c2Word q p f n) ≡ 28
   unfolding c2Word
   length-c2 n = length-with-q q (code .four-q) (before n) (length-before n)
@@ -44,6 +45,7 @@ module _ {C : List ℕ → Type 0} {q p : List ℕ → List ℕ} (code : Coding 
   length-spread : (n : ℕ) → length (spread n) ≡ 28
   length-spread n = length-out between (λ m. c2Word q p f m) n ∙ length-c2 n
 
+  -- a C1 word has 32
   pub length-c1 : (n : ℕ) → length (c1Word q p f n) ≡ 32
   unfolding c1Word
   length-c1 n = length-with-p p (code .four-p) (spread n) (length-spread n)
@@ -59,6 +61,7 @@ module _ {C : List ℕ → Type 0} {q p : List ℕ → List ℕ} (code : Coding 
   unfolding between
   wide₂ m = omega (arith, length-c2 m)
 
+  -- no row of the last stage lacks a byte
   pub wide₃ : (m : ℕ) → length afterC1 ≤ length (c1Word q p f m)
   unfolding afterC1
   wide₃ m = omega (arith, length-c1 m)
@@ -92,6 +95,7 @@ module _ {C : List ℕ → Type 0} {q p : List ℕ → List ℕ} (code : Coding 
     unfolding c1Word
     bytes-c1 n = bytes-with-p p (code .four-p) (spread n) (length-spread n) (bytes-spread n) (code .bytes-p (spread n) (bytes-spread n))
 
+    -- and so are codewords, whatever the codes are
     pub c2-codeword : (n : ℕ) → C (c2Word q p f n)
     unfolding c2Word
     c2-codeword n = code .code-q (before n) (length-before n) (bytes-before n)

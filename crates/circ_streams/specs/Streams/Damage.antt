@@ -32,9 +32,11 @@ module _ (f : ℕ → List ℕ) (frames : F1Frames f) (g : ℕ → List ℕ) (da
   unfolding corrected
   mended n = ap (handedOn (metC1 g n)) (nearest-complete 4 (metC1 g n) (bytes-met-c1 g (damaged .long) (damaged .bytes) n) (omega arith) (omega (arith, length-met-c1 g (damaged .long) n)) (lateC1 qOf pOf f n) (near n))
 
+  -- the F1-frames come back all the same
   pub damaged-and-back : (n : ℕ) → f1At g (roundTrip + n) ≡ f n
   damaged-and-back n =
       mended-back circ-coding circ-correcting f (frames .long) (frames .bytes) g mended (roundTrip + n) ∙ back-later (replicate 24 0) f roundTrip n
 
+  -- and none is in doubt
   pub damaged-without-doubt : (n : ℕ) → doubtAt g n ≡ 0
   damaged-without-doubt n = mended-sure circ-coding circ-correcting f (frames .long) (frames .bytes) g mended n

@@ -1,4 +1,4 @@
--- `lines::delay` meets its contract. The loop's invariant is `Going`: what stands before the place reached, the carry and the step that is left are
+-- `lines::delay` meets its contract. The loop's invariant is `StepLeft`: what stands before the place reached, the carry and the step that is left are
 -- the step as it is defined; `skip` and `turn` carry it over a row, and the shift at the end takes the carry in (`done-next`).
 -- Assumes nothing.
 use Prim.Native.Nat.{ℕ, _-_, _+_}
@@ -8,14 +8,14 @@ use native.Mathlib.Omega.{arith}
 use borrow.Author.Needs.{needs}
 use lib.ListN.{length, drop}
 use lib.Seq.{length-take-le}
-use Rattle.lines.proofs.Going.{Going, start, skip, turn}
+use Rattle.lines.proofs.StepLeft.{StepLeft, start, skip, turn}
 use Rattle.lines.proofs.Done.{done-out, done-next, done-length}
 use Rattle.lines.proofs.delay.Statement.{statement}
 use Rattle.lines.proofs.delay.Tie as tie
 
 abbrev Inv-loop : tie.InvT-loop
 Inv-loop lens line₀ word₀ rows at₀ carry₀ k₀ line word at carry k =
-    (rows ≡ length lens - (length lens - length word₀)) × Going lens line₀ word₀ line word at carry k
+    (rows ≡ length lens - (length lens - length word₀)) × StepLeft lens line₀ word₀ line word at carry k
 
 abbrev μ-loop : tie.MeasureT-loop
 μ-loop lens line₀ word₀ rows at₀ carry₀ k₀ line word at carry k = rows - k

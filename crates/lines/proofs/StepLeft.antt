@@ -11,7 +11,7 @@ use lib.Seq.{take-suc, drop-cons, set-split, take-suc-set, drop-set-lt, drop-dro
 use Rattle.lines.specs.Delay.{lineOut, lineNext, rowsOut, rowsNext}
 use Rattle.lines.proofs.Rest.{take-short, drop-short, rest-out, rest-next, line-out, line-next}
 
-pub record Going (lens line₀ word₀ line word : List ℕ) (at carry k : ℕ) : Type 0 where
+pub record StepLeft (lens line₀ word₀ line word : List ℕ) (at carry k : ℕ) : Type 0 where
   pub low-lens : k ≤ length lens
   pub low-word : k ≤ length word₀
   pub inside : at ≤ length line₀
@@ -20,7 +20,7 @@ pub record Going (lens line₀ word₀ line word : List ℕ) (at carry k : ℕ) 
   pub out : rowsOut lens line₀ word₀ ≡ take k word ++ rowsOut (drop k lens) (drop at line) (drop k word)
   pub next : 0 ∷ rowsNext lens line₀ word₀ ≡ take at line ++ (carry ∷ rowsNext (drop k lens) (drop at line) (drop k word))
 
-pub start : (lens line word : List ℕ) → Going lens line word line word 0 0 0
+pub start : (lens line word : List ℕ) → StepLeft lens line word line word 0 0 0
 start lens line word =
     record {
       low-lens = omega arith;
@@ -32,7 +32,7 @@ start lens line word =
       next = refl;
     }
 
-module _ {lens line₀ word₀ line word : List ℕ} {at carry k d : ℕ} (g : Going lens line₀ word₀ line word at carry k)
+module _ {lens line₀ word₀ line word : List ℕ} {at carry k d : ℕ} (g : StepLeft lens line₀ word₀ line word at carry k)
     (hl : k < length lens) (hw : k < length word₀) (hd : d ≡ getD lens k 0 - (getD lens k 0 - (length line - at))) where
   s : List ℕ
   s = drop at line
@@ -73,7 +73,7 @@ module _ {lens line₀ word₀ line word : List ℕ} {at carry k d : ℕ} (g : G
       (drop-short (getD lens k 0) d s hd')
 
   -- a row that does not wait goes on as it is
-  pub skip : d ≡ 0 → Going lens line₀ word₀ line word at carry (k + 1)
+  pub skip : d ≡ 0 → StepLeft lens line₀ word₀ line word at carry (k + 1)
   unfolding s x left-out left-next lineOut lineNext
   skip z =
       record {
@@ -143,7 +143,7 @@ module _ {lens line₀ word₀ line word : List ℕ} {at carry k d : ℕ} (g : G
     same : drop (k + 1) (set word k y) ≡ drop (k + 1) word
     same = drop-set-lt (k + 1) word k y (omega arith)
 
-    pub turn : Going lens line₀ word₀ (set line at carry) (set word k (getD line at 0)) (at + d) (getD word k 0) (k + 1)
+    pub turn : StepLeft lens line₀ word₀ (set line at carry) (set word k (getD line at 0)) (at + d) (getD word k 0) (k + 1)
     unfolding s x left-out left-next y line' tail
     turn =
         record {
