@@ -1,6 +1,6 @@
 -- The better of two choices stands for the better of their Merging bits.
 -- Assumes nothing.
-use mathlib.Core.Path.{_≡_, refl, subst}
+use mathlib.Core.Path.{_≡_, subst}
 use mathlib.Core.Bool.{Bool, true, false, cond, not}
 use mathlib.Core.List.{List, _++_}
 use Prim.Native.Nat.{ℕ}

@@ -13,14 +13,13 @@ use Rattle.outcome.specs.Table.{allBelow}
 use Rattle.outcome.specs.Table.Entries.{below, and-left, and-right}
 use Rattle.bits.specs.Bits.{bitsOf}
 use Rattle.words.specs.Words.{words}
-use Rattle.words.specs.Every.{every, each}
 use Rattle.merging.specs.Automaton.{step, steps}
 use Rattle.merging.specs.Dsv.{ups, levelAfter}
 use Rattle.choosing.specs.declared.profile.Profile.{Profile}
 use Rattle.choosing.specs.Profiles.{leadOf, restOf, profileOf, Profiled, row, rows}
 use Rattle.choosing.specs.States.{entered}
-use Rattle.choosing.specs.Symbols.{symbols}
-use Rattle.choosing.specs.Symbols.Which.{how-many-symbols}
+use Rattle.words.specs.Symbols.{symbols}
+use Rattle.words.specs.Symbols.Which.{how-many-symbols}
 
 row-at : (ws : List ℕ) (k j : ℕ) → k < length ws → j < 8 → getD (rows ws) (8 * k + j) 0 ≡ getD (row (getD ws k 0)) j 0
 unfolding rows

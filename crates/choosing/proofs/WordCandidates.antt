@@ -9,7 +9,7 @@ use native.Mathlib.Omega.{arith}
 use borrow.Author.Tests.{eqb-true, eqb-false}
 use lib.Dec.{eqb}
 use Rattle.bits.specs.Bits.{bitsOf, number}
-use Rattle.bits.specs.Numbers.{length-bits, bits-join, number-bits}
+use Rattle.bits.specs.Bits.Numbers.{length-bits, bits-join, number-bits}
 use Rattle.merging.specs.Agree.{passes}
 use Rattle.merging.specs.Automaton.{step, steps}
 use Rattle.merging.specs.Chosen.{better, beforeWord, m100, m010, m001, m000}
@@ -24,7 +24,7 @@ use Rattle.choosing.specs.Choices.{beforeNextWord, chosenWord}
 use Rattle.choosing.specs.Profiles.{Profiled}
 use Rattle.choosing.specs.States.{entered, afterWord, afterZeros}
 use Rattle.choosing.specs.Strokes.{spent}
-use Rattle.choosing.specs.Traces.{traceAfter, tallyDsv, Fit}
+use Rattle.choosing.specs.Traces.{tallyDsv, Fit}
 use Rattle.choosing.proofs.BetterOf.{better-stands}
 use Rattle.choosing.proofs.RightStates.{ones-enter, zeros-enter, step-low, three-low}
 use Rattle.choosing.proofs.RightStrokes.{spent-is}

@@ -15,7 +15,7 @@ use Rattle.choosing.specs.declared.Tally.{Tally}
 use Rattle.choosing.specs.declared.header.Tail.{Tail}
 use Rattle.choosing.specs.declared.trace.Choice.{Choice}
 use Rattle.choosing.specs.declared.trace.Trace.{Trace}
-use Rattle.choosing.specs.Symbols.{bitsAt}
+use Rattle.words.specs.Symbols.{bitsAt}
 use Rattle.choosing.specs.Traces.{tallyAfter, traceAfter, tallyDsv, light, fits}
 pub mod Rows
 pub mod Digits

@@ -1,4 +1,3 @@
-pub mod Symbols
 pub mod Traces
 pub mod Choices
 pub mod States

@@ -7,7 +7,7 @@ ghost use Rattle.choosing.specs.Choices.{chosenWord, wordChoice};
 ghost use Rattle.choosing.specs.Candidates.{oneAfter, WordStands};
 ghost use Rattle.choosing.specs.States.{entered, afterWord, afterZeros};
 ghost use Rattle.choosing.specs.Profiles.{Profiled, rows};
-ghost use Rattle.choosing.specs.Symbols.{symbols};
+ghost use Rattle.words.specs.Symbols.{symbols};
 ghost use Rattle.choosing.specs.Traces.{Fit};
 use crate::profile;
 use crate::profile::Profile;

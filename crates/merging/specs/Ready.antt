@@ -5,7 +5,7 @@ use mathlib.Core.Bool.{Bool, cond, not, _&&_, _||_}
 use mathlib.Core.List.{List, _++_}
 use Prim.Native.Nat.{ℕ, _%_}
 use lib.Dec.{eqb, leb, ltb}
-use Rattle.words.specs.Runs.{gaps}
+use Rattle.words.specs.RunRule.{gaps}
 use Rattle.merging.specs.Rule.{header, headers}
 use Rattle.merging.specs.Automaton.{steps, live, shown, start22}
 use Rattle.merging.specs.Chosen.{m100, m010, m001, m000}

@@ -8,8 +8,7 @@ use Rattle.outcome.specs.Table.{allBelow}
 use Rattle.outcome.specs.Table.Entries.{below, and-left}
 use Rattle.bits.specs.Bits.{bitsOf}
 use Rattle.words.specs.Words.{words, wordOf, sync0, sync1}
-use Rattle.words.specs.Every.{every, each}
-use Rattle.words.specs.Facts.{how-many}
+use Rattle.words.specs.Words.Facts.{how-many}
 use Rattle.merging.specs.Rule.{headers}
 use Rattle.merging.specs.Automaton.{step}
 use Rattle.merging.specs.Ready.{ready, ruled, agrees, wordAgrees, takes, headerAgrees, takesHeader}

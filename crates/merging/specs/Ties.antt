@@ -8,7 +8,7 @@ use native.Mathlib.Nat.{add-zero}
 use native.Mathlib.Omega.{arith}
 use borrow.Author.Tests.{eqb-true}
 use lib.Dec.{T, eqb}
-use Rattle.words.specs.Runs.{gaps, runs}
+use Rattle.words.specs.RunRule.{gaps, runs}
 use Rattle.merging.specs.Rule.{header, headers}
 use Rattle.merging.specs.Automaton.{step, steps, live, shown, start22}
 use Rattle.merging.specs.Cases.{Each, case, Binary}

@@ -1,10 +1,10 @@
 -- What is chosen for a frame is what the rule chooses: after a Sync Header, the 33 words, and the Merging bits before the next one.
 -- Assumes nothing.
-use mathlib.Core.Path.{_≡_, refl, sym, ap, ap₂, _∙_, subst}
+use mathlib.Core.Path.{_≡_, refl, sym, ap, _∙_, subst}
 use mathlib.Core.Bool.{true}
 use mathlib.Core.Logic.{_⊎_, inl, inr}
-use mathlib.Core.List.{List, [], _∷_, _++_, append-assoc}
-use Prim.Native.Nat.{ℕ, zero, suc, _+_, _*_, _≤_, _<_, _^_}
+use mathlib.Core.List.{List, _∷_, _++_, append-assoc}
+use Prim.Native.Nat.{ℕ, suc, _+_, _*_, _≤_, _<_, _^_}
 use native.Mathlib.Omega.{arith}
 use lib.Dec.{T}
 use lib.ListN.{length, getD}
@@ -17,15 +17,15 @@ use Rattle.merging.specs.Chosen.{Written, after, withHeader, withTail}
 use Rattle.merging.specs.Ready.{ready}
 use Rattle.merging.specs.Rule.{header}
 use Rattle.merging.specs.Taken.{word-taken, sync0-taken, sync1-taken, header-taken}
-use Rattle.merging.specs.Ties.{Tied, tied-more, tied-header, steps-append, live-first}
+use Rattle.merging.specs.Ties.{tied-more, tied-header, steps-append, live-first}
 use Rattle.choosing.specs.declared.FrameChoice.{FrameChoice}
 use Rattle.choosing.specs.declared.Tally.{Tally}
 use Rattle.choosing.specs.declared.header.Tail.{Tail}
 use Rattle.choosing.specs.declared.trace.Trace.{Trace}
 use Rattle.choosing.specs.Choices.{wordsChosen, wordsTrace, headed, afterHeader, beforeNextHeader, chosenTail, tailChoice, frameChoice}
 use Rattle.choosing.specs.Choices.Digits.{tail-digits, tail-bits}
-use Rattle.choosing.specs.Symbols.{symbols, bitsAt, wordsOf}
-use Rattle.choosing.specs.Symbols.Which.{symbol-word, symbol-256, symbol-257}
+use Rattle.words.specs.Symbols.{symbols, bitsAt, wordsOf}
+use Rattle.words.specs.Symbols.Which.{symbol-word, symbol-256, symbol-257}
 use Rattle.choosing.specs.Traces.{tallyAfter, tallyDsv, light, fits, Within}
 use Rattle.choosing.specs.Traces.Room.{room-light, fit-fits, within-light, within-after}
 use Rattle.section_writer.specs.BufferBits.{wordBits}

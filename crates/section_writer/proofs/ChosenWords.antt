@@ -1,29 +1,27 @@
 -- What the automaton chooses is what the rule chooses: a word, and words one after the other.
 -- Assumes nothing.
-use mathlib.Core.Path.{_≡_, refl, sym, ap, ap₂, _∙_, subst}
+use mathlib.Core.Path.{_≡_, sym, ap, ap₂, _∙_, subst}
 use mathlib.Core.Bool.{true}
 use mathlib.Core.List.{List, [], _∷_, _++_, append-assoc, append-nil}
-use Prim.Native.Nat.{ℕ, zero, suc, _+_, _*_, _≤_, _<_, _^_}
+use Prim.Native.Nat.{ℕ, suc, _+_, _*_, _<_, _^_}
 use native.Mathlib.Omega.{arith}
 use borrow.Author.Tests.{lt-ltb}
 use lib.Dec.{T}
 use lib.ListN.{length, getD}
 use Rattle.bits.specs.Bits.{bitsOf}
-use Rattle.bits.specs.Numbers.{length-bits}
+use Rattle.bits.specs.Bits.Numbers.{length-bits}
 use Rattle.words.specs.Words.{wordOf}
 use Rattle.merging.specs.Agree.{Takes, taken, word-agrees, word-passes, word-ready}
-use Rattle.merging.specs.Automaton.{steps}
 use Rattle.merging.specs.Chosen.{Written, after, withWord}
 use Rattle.merging.specs.Ready.{ready}
 use Rattle.merging.specs.Taken.{word-taken}
 use Rattle.merging.specs.Ties.{Tied, tied-more}
-use Rattle.choosing.specs.declared.Tally.{Tally}
 use Rattle.choosing.specs.declared.trace.Choice.{Choice}
 use Rattle.choosing.specs.declared.trace.Trace.{Trace}
 use Rattle.choosing.specs.Choices.{beforeNextWord, chosenWord, wordChoice, wordsChosen, wordsTrace}
 use Rattle.choosing.specs.Choices.Digits.{word-digits, word-bits}
-use Rattle.choosing.specs.Symbols.{symbols, bitsAt, wordsOf}
-use Rattle.choosing.specs.Symbols.Which.{symbol-word}
+use Rattle.words.specs.Symbols.{symbols, bitsAt, wordsOf}
+use Rattle.words.specs.Symbols.Which.{symbol-word}
 use Rattle.choosing.specs.Traces.{traceAfter, tallyDsv, fits, Within}
 use Rattle.choosing.specs.Traces.Room.{fit-fits, within-light, within-after}
 use Rattle.section_writer.specs.BufferBits.{wordBits}

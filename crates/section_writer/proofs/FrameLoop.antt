@@ -15,7 +15,7 @@ use Rattle.choosing.specs.declared.FrameChoice.{FrameChoice}
 use Rattle.choosing.specs.declared.Tally.{Tally}
 use Rattle.choosing.specs.Choices.{frameChoice, afterHeader, wordsTrace}
 use Rattle.choosing.specs.Choices.Digits.{words-small, tail-small}
-use Rattle.choosing.specs.Symbols.{wordsOf}
+use Rattle.words.specs.Symbols.{wordsOf}
 use Rattle.choosing.specs.Traces.{Within}
 use Rattle.section_state.specs.Carried.Range.{farthest}
 use Rattle.section_writer.specs.declared.frame.Writing.{Writing}

@@ -16,7 +16,7 @@ use Rattle.outcome.specs.Say.{done, refused, cleared, leaves}
 use Rattle.outcome.specs.Say.Refusals.{cleared-right, cleared-wrong}
 use Rattle.calls.specs.Step.{Step, step, handedBack}
 use Rattle.bits.specs.Bits.{pack, unpack}
-use Rattle.bits.specs.Packed.{packed}
+use Rattle.bits.specs.Bits.Packed.{packed}
 use Rattle.merging.specs.Chosen.{Written}
 use Rattle.choosing.specs.declared.Tally.{Tally}
 use Rattle.choosing.specs.Traces.{Within}

@@ -10,7 +10,7 @@ use Rattle.merging.specs.Rule.{header}
 use Rattle.merging.specs.Ties.{Tied}
 use Rattle.choosing.specs.declared.Tally.{Tally}
 use Rattle.choosing.specs.Choices.{headed}
-use Rattle.choosing.specs.Symbols.{symbols}
+use Rattle.words.specs.Symbols.{symbols}
 use Rattle.choosing.specs.Traces.{Within}
 use Rattle.section_state.specs.Carried.{sectionBits}
 use Rattle.section_state.specs.Carried.Range.{farthest}

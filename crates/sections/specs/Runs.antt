@@ -6,7 +6,7 @@ use mathlib.Core.Bool.{true}
 use mathlib.Core.List.{List, _++_}
 use Prim.Native.Nat.{ℕ}
 use lib.Dec.{T}
-use Rattle.words.specs.Runs.{runs}
+use Rattle.words.specs.RunRule.{runs}
 use Rattle.merging.specs.Chosen.{Written}
 use Rattle.merging.specs.Places.{placed, Placed}
 use Rattle.merging.specs.Ready.{ready}

@@ -3,14 +3,14 @@
 use mathlib.Core.Path.{_≡_, refl, sym, ap, _∙_, subst}
 use mathlib.Core.Bool.{Bool, true, false, cond, _&&_}
 use mathlib.Core.List.{List, [], _∷_, _++_}
-use Prim.Native.Nat.{ℕ, zero, suc, _+_, _<_, _^_}
+use Prim.Native.Nat.{ℕ, zero, suc, _<_, _^_}
 use native.Mathlib.Omega.{arith}
 use lib.Dec.{ltb}
 use lib.ListN.{length, getD, length-append}
 use Rattle.bits.specs.Binary.{Binary}
 use Rattle.bits.specs.Binary.Parts.{binary-append, binary-bits}
 use Rattle.bits.specs.Bits.{bitsOf, number}
-use Rattle.bits.specs.Numbers.{length-bits, number-lt, bits-number}
+use Rattle.bits.specs.Bits.Numbers.{length-bits, number-lt, bits-number}
 use Rattle.merging.specs.Agree.{better-keeps, word-keeps, passes}
 use Rattle.merging.specs.Automaton.{start22}
 use Rattle.merging.specs.Chosen.{beforeHeader, m100, m000}
@@ -18,7 +18,7 @@ use Rattle.merging.specs.Rule.{header}
 use Rattle.choosing.specs.declared.header.Tail.{Tail}
 use Rattle.choosing.specs.declared.trace.Choice.{Choice}
 use Rattle.choosing.specs.declared.trace.Trace.{Trace}
-use Rattle.choosing.specs.Symbols.{bitsAt}
+use Rattle.words.specs.Symbols.{bitsAt}
 use Rattle.choosing.specs.Traces.{tallyDsv, fits}
 use Rattle.choosing.specs.Choices.{beforeNextWord, chosenWord, wordChoice, wordsChosen, beforeNextHeader, chosenTail, tailChoice}
 

@@ -11,8 +11,7 @@ use lib.ListN.{length, getD}
 use Rattle.outcome.specs.Table.{allBelow}
 use Rattle.outcome.specs.Table.Entries.{below}
 use Rattle.bits.specs.Bits.{bitsOf}
-use Rattle.bits.specs.Numbers.{length-bits}
-use Rattle.words.specs.Every.{every, each}
+use Rattle.bits.specs.Bits.Numbers.{length-bits}
 use Rattle.words.specs.Words.{words, sync0, sync1}
 use Rattle.merging.specs.Agree.{headers-short, allowed-is, alike}
 use Rattle.merging.specs.Automaton.{step, steps, live, start22}

@@ -7,7 +7,7 @@ use mathlib.Core.List.{List, _++_, append-assoc}
 use Prim.Native.Nat.{ℕ, _+_, _%_}
 use native.Mathlib.Nat.{add-assoc}
 use lib.Dec.{eqb}
-use Rattle.words.specs.Runs.{gaps, runs}
+use Rattle.words.specs.RunRule.{gaps, runs}
 use Rattle.merging.specs.Agree.{eqb-plus}
 use Rattle.merging.specs.Automaton.{shown}
 use Rattle.merging.specs.Chosen.{beforeWord, beforeHeader}

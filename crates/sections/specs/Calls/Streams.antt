@@ -2,7 +2,7 @@
 -- Assumes nothing.
 use mathlib.Core.Path.{_≡_, refl, sym, ap, ap₂, _∙_, subst}
 use mathlib.Core.Bool.{Bool, true, false, cond, _&&_, false≢true}
-use mathlib.Core.List.{List, [], _∷_, _++_}
+use mathlib.Core.List.{List, [], _∷_}
 use Prim.Native.Nat.{ℕ, _%_, _<_}
 use lib.Dec.{eqb, ltb}
 use lib.ListN.{length, drop}
@@ -12,8 +12,8 @@ use Rattle.calls.specs.Step.Kept.{refused-keeps}
 use Rattle.calls.specs.Calls.{run, doneOf, accepted}
 use Rattle.calls.specs.Calls.Refused.{done-alike}
 use Rattle.bits.specs.Bits.{pack, unpack}
-use Rattle.bits.specs.Packed.{unpack-append}
-use Rattle.words.specs.Runs.{runs}
+use Rattle.bits.specs.Bits.Packed.{unpack-append}
+use Rattle.words.specs.RunRule.{runs}
 use Rattle.merging.specs.Rule.{header, starts}
 use Rattle.section_writer.specs.declared.SectionWriter.{SectionWriter}
 use Rattle.section_writer.specs.State.{right}

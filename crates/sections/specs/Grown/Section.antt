@@ -7,7 +7,7 @@ use native.Mathlib.Omega.{arith}
 use lib.ListN.{length, length-append}
 use Rattle.outcome.specs.Table.{tabulated}
 use Rattle.bits.specs.Bits.{bitsOf}
-use Rattle.bits.specs.Numbers.{length-bits}
+use Rattle.bits.specs.Bits.Numbers.{length-bits}
 use Rattle.bits.specs.Binary.Parts.{binary-append, binary-bits}
 use Rattle.merging.specs.Chosen.{Written, after, dsvAfter, beforeWord, beforeHeader, withWord, withHeader, withTail}
 use Rattle.merging.specs.Dsv.{levelAfter, ups, downs}

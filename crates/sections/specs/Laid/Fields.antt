@@ -8,7 +8,7 @@ use native.Mathlib.Omega.{arith}
 use lib.ListN.{length, getD, take, drop, length-append, length-drop}
 use lib.Seq.{take-append-le, drop-append-le, drop-append-add, take-length}
 use Rattle.bits.specs.Bits.{bitsOf, number}
-use Rattle.bits.specs.Numbers.{length-bits, number-bits}
+use Rattle.bits.specs.Bits.Numbers.{length-bits, number-bits}
 use Rattle.merging.specs.Chosen.{Written, dsvAfter, beforeWord, withWord}
 use Rattle.merging.specs.Rule.{allowed}
 use Rattle.section_reader.specs.Reading.{fieldAt}

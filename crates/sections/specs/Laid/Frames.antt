@@ -11,7 +11,7 @@ use lib.ListN.{length}
 use Rattle.outcome.specs.Bytes.{Bytes}
 use Rattle.outcome.specs.Table.{tabulated}
 use Rattle.outcome.specs.Table.Entries.{tabulated-at}
-use Rattle.words.specs.Facts.{word-14}
+use Rattle.words.specs.Words.Facts.{word-14}
 use Rattle.merging.specs.Chosen.{Written, withHeader, withTail}
 use Rattle.section_writer.specs.declared.SectionWriter.{SectionWriter}
 use Rattle.section_reader.specs.Reading.{fieldAt, headless, wordRead}

@@ -11,10 +11,10 @@ use lib.ListN.{length}
 use Rattle.outcome.specs.Bytes.{Bytes}
 use Rattle.outcome.specs.Table.Entries.{tabulated-same}
 use Rattle.bits.specs.Bits.{unpack, pack}
-use Rattle.bits.specs.Packed.{unpack-pack, length-pack}
+use Rattle.bits.specs.Bits.Packed.{unpack-pack, length-pack}
 use Rattle.words.specs.declared.Symbol.{Symbol}
 use Rattle.words.specs.declared.Symbol.the-variants.{Unknown}
-use Rattle.words.specs.Facts.{byte-of-word, sync0-unknown, sync1-unknown}
+use Rattle.words.specs.Words.Different.{byte-of-word, sync0-unknown, sync1-unknown}
 use Rattle.words.specs.Words.{wordOf, byteOf, sync0, sync1}
 use Rattle.bits.specs.Binary.{Binary}
 use Rattle.section_writer.specs.declared.SectionWriter.{SectionWriter}

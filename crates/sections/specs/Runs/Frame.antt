@@ -9,7 +9,7 @@ use lib.ListN.{length}
 use Rattle.outcome.specs.Bytes.{Bytes}
 use Rattle.outcome.specs.Table.{tabulated}
 use Rattle.bits.specs.Bits.{bitsOf}
-use Rattle.words.specs.Runs.{runs}
+use Rattle.words.specs.RunRule.{runs}
 use Rattle.merging.specs.Agree.{passes, header-agrees, header-passes}
 use Rattle.merging.specs.Automaton.{steps, live, start22}
 use Rattle.bits.specs.Binary.{Binary}

@@ -8,7 +8,7 @@ use lib.Dec.{T}
 use lib.ListN.{length, length-append}
 use Rattle.outcome.specs.Bytes.{Bytes}
 use Rattle.bits.specs.Bits.{bitsOf}
-use Rattle.bits.specs.Numbers.{length-bits}
+use Rattle.bits.specs.Bits.Numbers.{length-bits}
 use Rattle.words.specs.Words.{wordOf, sync0, sync1}
 use Rattle.merging.specs.Agree.{passes, Takes, taken, word-agrees, word-passes, word-ready}
 use Rattle.merging.specs.Automaton.{steps, live}

@@ -11,7 +11,7 @@ use borrow.Author.Tests.{ne-eqb}
 use lib.Dec.{T, eqb}
 use lib.ListN.{length, drop}
 use Rattle.outcome.specs.Table.Entries.{and-left, and-right, of-true, true-of}
-use Rattle.words.specs.Runs.{runs}
+use Rattle.words.specs.RunRule.{runs}
 use Rattle.merging.specs.Places.{placed, placed-first}
 use Rattle.merging.specs.Rule.{header, starts}
 use Rattle.merging.specs.Ties.{tied-first}

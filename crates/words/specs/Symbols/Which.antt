@@ -5,9 +5,9 @@ use mathlib.Core.List.{List, [], _∷_}
 use Prim.Native.Nat.{ℕ, zero, suc, _<_}
 use native.Mathlib.Nat.{not-suc-le-zero, le-of-suc-le-suc}
 use lib.ListN.{length, getD, List·getD-append}
 use Rattle.words.specs.Words.{words, wordOf, sync0, sync1}
-use Rattle.words.specs.Facts.{how-many}
-use Rattle.choosing.specs.Symbols.{symbols, wordsOf}
+use Rattle.words.specs.Words.Facts.{how-many}
+use Rattle.words.specs.Symbols.{symbols, wordsOf}
 
 -- there are 258
 pub how-many-symbols : length symbols ≡ 258
@@ -19,6 +19,7 @@ pub symbol-word : (b : ℕ) → b < 256 → getD symbols b 0 ≡ wordOf b
 unfolding symbols
 symbol-word b h = List·getD-append words (sync0 ∷ sync1 ∷ []) 0 b (rw how-many h)
 
+-- and 256 and 257 for the SYNCs
 pub symbol-256 : getD symbols 256 0 ≡ sync0
 unfolding symbols words
 symbol-256 = refl
@@ -33,6 +34,7 @@ unfolding wordsOf
 words-length [] = refl
 words-length (k ∷ ks) = ap suc (words-length ks)
 
+-- at its place
 pub words-at : (ks : List ℕ) (i : ℕ) → i < length ks → getD (wordsOf ks) i 0 ≡ getD symbols (getD ks i 0) 0
 unfolding wordsOf
 words-at [] i h = absurd (not-suc-le-zero h)
