@@ -5,8 +5,7 @@ use mathlib.Core.Bool.{Bool, true, false, cond, not}
 use mathlib.Core.List.{List, _++_}
 use Prim.Native.Nat.{ℕ}
 use lib.Dec.{eqb, ltb}
-use Rattle.merging.specs.Agree.{passes}
-use Rattle.merging.specs.Automaton.{steps}
+use Rattle.merging.specs.Automaton.{passes, steps}
 use Rattle.merging.specs.Chosen.{better}
 use Rattle.merging.specs.Dsv.{absolute}
 use Rattle.choosing.specs.declared.trace.Choice.{Choice}

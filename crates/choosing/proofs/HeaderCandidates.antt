@@ -9,7 +9,7 @@ use native.Mathlib.Omega.{arith}
 use lib.Dec.{eqb}
 use Rattle.bits.specs.Bits.{number}
 use Rattle.bits.specs.Bits.Numbers.{number-bits}
-use Rattle.merging.specs.Agree.{better-keeps}
+use Rattle.merging.specs.Chosen.Better.{better-keeps}
 use Rattle.merging.specs.Automaton.{start22}
 use Rattle.merging.specs.Chosen.{beforeHeader, m100, m000}
 use Rattle.merging.specs.Dsv.{absolute}

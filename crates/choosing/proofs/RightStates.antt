@@ -8,7 +8,7 @@ use native.Mathlib.Omega.{arith}
 use borrow.Author.Tests.{leb-false}
 use lib.Dec.{eqb, ltb, leb}
 use Rattle.merging.specs.Automaton.{step, steps, start22}
-use Rattle.merging.specs.Cases.{case}
+use Rattle.lists.specs.Each.Case.{case}
 use Rattle.merging.specs.Chosen.{m100, m010, m001, m000}
 use Rattle.choosing.specs.Candidates.{oneAfter}
 use Rattle.choosing.specs.States.{entered, afterZeros, headerAfterOne, headerAfterZeros}

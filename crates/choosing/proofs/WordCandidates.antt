@@ -10,12 +10,11 @@ use borrow.Author.Tests.{eqb-true, eqb-false}
 use lib.Dec.{eqb}
 use Rattle.bits.specs.Bits.{bitsOf, number}
 use Rattle.bits.specs.Bits.Numbers.{length-bits, bits-join, number-bits}
-use Rattle.merging.specs.Agree.{passes}
-use Rattle.merging.specs.Automaton.{step, steps}
+use Rattle.merging.specs.Automaton.{passes, step, steps}
 use Rattle.merging.specs.Chosen.{better, beforeWord, m100, m010, m001, m000}
 use Rattle.merging.specs.Dsv.{levelAfter, ups, downs, absolute}
-use Rattle.merging.specs.Ties.{steps-append, steps-broken}
-use Rattle.merging.specs.Levels.{mirror, ups-downs}
+use Rattle.merging.specs.Automaton.Steps.{steps-append, steps-broken}
+use Rattle.merging.specs.Dsv.Levels.{mirror, ups-downs}
 use Rattle.choosing.specs.declared.profile.Profile.{Profile}
 use Rattle.choosing.specs.declared.trace.Choice.{Choice}
 use Rattle.choosing.specs.declared.trace.Trace.{Trace}

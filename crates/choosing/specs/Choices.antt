@@ -6,8 +6,7 @@ use mathlib.Core.List.{List, [], _∷_, _++_}
 use Prim.Native.Nat.{ℕ}
 use lib.Dec.{ltb}
 use Rattle.bits.specs.Bits.{number}
-use Rattle.merging.specs.Agree.{passes}
-use Rattle.merging.specs.Automaton.{start22}
+use Rattle.merging.specs.Automaton.{passes, start22, headed}
 use Rattle.merging.specs.Chosen.{beforeWord, beforeHeader}
 use Rattle.merging.specs.Rule.{header}
 use Rattle.choosing.specs.declared.FrameChoice.{FrameChoice}
@@ -40,10 +39,6 @@ wordsChosen t (k ∷ ks) = wordChoice t k .bits ∷ wordsChosen (wordChoice t k 
 unfoldable pub wordsTrace : Trace → List ℕ → Trace
 wordsTrace t [] = t
 wordsTrace t (k ∷ ks) = wordsTrace (wordChoice t k .after) ks
-
--- the automaton's state after a Sync Header: one ZERO since a ONE that has ten ZEROs before it
-abbrev pub headed : ℕ
-headed = 12
 
 -- the trace after a Sync Header
 unfoldable pub afterHeader : Tally → Trace

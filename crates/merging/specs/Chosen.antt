@@ -12,16 +12,18 @@ use Rattle.merging.specs.Dsv.{levelAfter, ups, downs, absolute}
 pub mod Fold
 pub mod Stands
 pub mod Behind
+pub mod Better
+pub mod ThreeBits
 
 -- what is written: the bits of the Section so far, the level after them, and how many bits there ever were at level +1 and at -1
-pub record Written : Type 0 where
+pub record SoFar : Type 0 where
   pub bits : List ℕ
   pub level : ℕ
   pub plus : ℕ
   pub minus : ℕ
 
 -- more bits
-abbrev pub after : Written → List ℕ → Written
+abbrev pub after : SoFar → List ℕ → SoFar
 after w bs =
     record {
       bits = w .bits ++ bs;
@@ -78,15 +80,15 @@ unfoldable pub beforeHeader : (List ℕ → Bool) → (List ℕ → ℕ) → Lis
 beforeHeader ok dsv = better ok dsv m100 m000
 
 -- a word is written, after its Merging bits
-unfoldable pub withWord : Written → List ℕ → Written
+unfoldable pub withWord : SoFar → List ℕ → SoFar
 withWord w next =
     after w
     (beforeWord (allowed (w .bits) next) (dsvAfter (w .level) (w .plus) (w .minus) next) ++ next)
 
 -- a Sync Header is written, at its place
-unfoldable pub withHeader : Written → Written
+unfoldable pub withHeader : SoFar → SoFar
 withHeader w = after w header
 
 -- the Merging bits before the next Sync Header are written
-unfoldable pub withTail : Written → Written
+unfoldable pub withTail : SoFar → SoFar
 withTail w = after w (beforeHeader (allowed (w .bits) header) (dsvAfter (w .level) (w .plus) (w .minus) header))

@@ -17,7 +17,7 @@ use Rattle.outcome.specs.Say.Refusals.{cleared-right, cleared-wrong}
 use Rattle.calls.specs.Step.{Step, step, handedBack}
 use Rattle.bits.specs.Bits.{pack, unpack}
 use Rattle.bits.specs.Bits.Packed.{packed}
-use Rattle.merging.specs.Chosen.{Written}
+use Rattle.merging.specs.Chosen.{SoFar}
 use Rattle.choosing.specs.declared.Tally.{Tally}
 use Rattle.choosing.specs.Traces.{Within}
 use Rattle.section_state.specs.Carried.{mostSections, possible, beginning}
@@ -76,8 +76,8 @@ module _ (s : SectionWriter) (frames control out : List ℕ) where
           let w = sectionAfter (levelNow (s .level)) (above (s .dsv)) (below (s .dsv)) frames control in
           let q : noted (unpack o) t′ ≡ w
           = d .is ∙ ap (λ (x : Tally). sectionAfter (x .level) (x .plus) (x .minus) frames control) b in
-          ap₂ (step (done [])) (a ∙ ap (λ (x : Written). advanced (x .level) (x .plus) (x .minus) (s .sections)) q)
-          (packed 7203 o (w .bits) y z (ap (λ (x : Written). x .bits) q))
+          ap₂ (step (done [])) (a ∙ ap (λ (x : SoFar). advanced (x .level) (x .plus) (x .minus) (s .sections)) q)
+          (packed 7203 o (w .bits) y z (ap (λ (x : SoFar). x .bits) q))
           ∙ (λ i. step (sym e i) (handedBack (sym e i) (afterSection s (section s frames control)) s) (leaves (sym e i) 7203 (pack 7203 (section s frames control .bits)) out))
 
 -- ---- what the calls on a way out give

@@ -5,11 +5,10 @@ use mathlib.Core.List.{List, _++_}
 use Prim.Native.Nat.{ℕ, _+_, _≤_, _<_}
 use lib.ListN.{length, getD}
 use Rattle.bits.specs.Bits.{unpack}
-use Rattle.merging.specs.Chosen.{Written}
+use Rattle.merging.specs.Chosen.{SoFar}
 use Rattle.merging.specs.Rule.{header}
-use Rattle.merging.specs.Ties.{Tied}
+use Rattle.merging.specs.Automaton.{StateOf, headed}
 use Rattle.choosing.specs.declared.Tally.{Tally}
-use Rattle.choosing.specs.Choices.{headed}
 use Rattle.words.specs.Symbols.{symbols}
 use Rattle.choosing.specs.Traces.{Within}
 use Rattle.section_state.specs.Carried.{sectionBits}
@@ -29,12 +28,12 @@ abbrev pub SymbolsFound : List ℕ → List ℕ → ℕ → ℕ → List ℕ →
 SymbolsFound frames control f n rs = (i : ℕ) → i < n → SymbolFound frames control f i (getD rs i 0)
 
 -- what is written: some bits, and a tally after them
-abbrev pub noted : List ℕ → Tally → Written
+abbrev pub noted : List ℕ → Tally → SoFar
 noted bits t = record { bits = bits; level = t .level; plus = t .plus; minus = t .minus }
 
 -- a Sync Header may follow these bits
 abbrev pub Opens : List ℕ → Type 0
-Opens bits = Tied (bits ++ header) headed
+Opens bits = StateOf (bits ++ header) headed
 
 -- between two frames: the pen is at rest, a Sync Header may follow, and no count is greater than a writer's may be
 pub record Resting (out : List ℕ) (w : Writing) : Type 0 where

@@ -8,7 +8,7 @@ use lib.ListN.{length}
 use Rattle.outcome.specs.Say.{Say, done, refused, demand}
 use Rattle.calls.specs.Step.{Step, stepOf}
 use Rattle.bits.specs.Bits.{pack}
-use Rattle.merging.specs.Chosen.{Written}
+use Rattle.merging.specs.Chosen.{SoFar}
 use Rattle.section_state.specs.Carried.{mostSections}
 use Rattle.section_writer.specs.declared.SectionWriter.{SectionWriter}
 use Rattle.section_writer.specs.declared.SectionWritten.{SectionWritten}
@@ -25,11 +25,11 @@ sayWritten ImpossibleState = refused 9 []
 sayWritten DiscFull = refused 7 []
 
 -- the Section that a writer makes of frames and Control bytes: its bits, and level and DSV after them
-unfoldable pub section : SectionWriter → List ℕ → List ℕ → Written
+unfoldable pub section : SectionWriter → List ℕ → List ℕ → SoFar
 section s frames control = sectionAfter (levelNow (s .level)) (above (s .dsv)) (below (s .dsv)) frames control
 
 -- the state after it
-unfoldable pub afterSection : SectionWriter → Written → SectionWriter
+unfoldable pub afterSection : SectionWriter → SoFar → SectionWriter
 afterSection s w = advanced (w .level) (w .plus) (w .minus) (s .sections)
 
 -- the demands in document 01's order

@@ -11,9 +11,9 @@ use lib.Dec.{leb, leb→le}
 use lib.IntN.{ℤ, pos, negsuc, natAbs, subℕ}
 use Rattle.outcome.specs.First.Found.{lt-or-le}
 use Rattle.outcome.specs.Table.Entries.{and-right, of-true}
-use Rattle.merging.specs.Chosen.{Written}
+use Rattle.merging.specs.Chosen.{SoFar}
 use Rattle.merging.specs.Dsv.{ups, downs}
-use Rattle.merging.specs.Levels.{ups-downs}
+use Rattle.merging.specs.Dsv.Levels.{ups-downs}
 use Rattle.section_writer.specs.declared.SectionWriter.{SectionWriter}
 use Rattle.section_writer.specs.State.{fresh, right, levelRight, above, below, levelNow, levelThen}
 use Rattle.section_writer.specs.WriteSay.{section, afterSection}
@@ -59,8 +59,8 @@ state-stays-right s frames control r h =
     let total : u + d ≡ 57624 = ups-downs (w .level) (g .bits) (level-low (s .level)) ∙ g .long in
     let t = of-true (right s) r in
     let dsv : natAbs (s .dsv) ≤ 57624 * s .sections = leb→le (natAbs (s .dsv)) (57624 * s .sections) (and-right (leb (s .sections) 450000) (leb (natAbs (s .dsv)) (57624 * s .sections)) (and-right (levelRight (s .level)) _ t)) in
-    let p : w′ .plus ≡ w .plus + u = ap (λ (x : Written). x .plus) (g .is) in
-    let m : w′ .minus ≡ w .minus + d = ap (λ (x : Written). x .minus) (g .is) in
+    let p : w′ .plus ≡ w .plus + u = ap (λ (x : SoFar). x .plus) (g .is) in
+    let m : w′ .minus ≡ w .minus + d = ap (λ (x : SoFar). x .minus) (g .is) in
     let n : natAbs (subℕ (w′ .plus) (w′ .minus)) ≤ 57624 * (s .sections + 1)
     = rw (abs-sub (w′ .plus) (w′ .minus), p, m) (omega (arith, near (above (s .dsv)) (below (s .dsv)) u d 57624 (57624 * s .sections) total (omega (arith, abs-split (s .dsv))))) in
     three-true (levelRight (levelThen (w′ .level))) (leb (s .sections + 1) 450000) (leb (natAbs (subℕ (w′ .plus) (w′ .minus))) (57624 * (s .sections + 1)))

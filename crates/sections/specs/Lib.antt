@@ -1,4 +1,3 @@
-pub mod MergingBits
 pub mod Stream
 pub mod Runs
 pub mod Grown

@@ -7,34 +7,34 @@ use mathlib.Core.List.{List, _++_}
 use Prim.Native.Nat.{ℕ}
 use lib.Dec.{T}
 use Rattle.words.specs.RunRule.{runs}
-use Rattle.merging.specs.Chosen.{Written}
+use Rattle.merging.specs.Chosen.{SoFar}
 use Rattle.merging.specs.Places.{placed, Placed}
 use Rattle.merging.specs.Ready.{ready}
 use Rattle.merging.specs.Rule.{header}
-use Rattle.merging.specs.Ties.{Tied}
+use Rattle.merging.specs.Automaton.{StateOf}
 pub mod Word
 pub mod Frame
 
 -- a Sync Header may follow
 pub record Opens (bits : List ℕ) : Type 0 where
-  pub tied : Tied (bits ++ header) 12
+  pub tied : StateOf (bits ++ header) 12
   pub placed-then : Placed (bits ++ header) 12 564
   pub runs-so-far : runs bits ≡ true
   pub placed-so-far : placed 0 bits ≡ true
 
 -- the Section that w is in begins after the bits `old`
-pub record Opening (old : List ℕ) (w : Written) : Type 0 where
-  pub own : Tied (w .bits ++ header) 12
+pub record Opening (old : List ℕ) (w : SoFar) : Type 0 where
+  pub own : StateOf (w .bits ++ header) 12
   pub all : Opens (old ++ w .bits)
 
 -- in a frame, c bits before the next Sync Header's place
-pub record Running (old : List ℕ) (w : Written) (s c : ℕ) : Type 0 where
-  pub own : Tied (w .bits) s
-  pub tied : Tied (old ++ w .bits) s
+pub record Running (old : List ℕ) (w : SoFar) (s c : ℕ) : Type 0 where
+  pub own : StateOf (w .bits) s
+  pub tied : StateOf (old ++ w .bits) s
   pub places : Placed (old ++ w .bits) s c
   pub at-ease : T (ready s)
 
 -- in a frame, in some state
-pub record Ran (old : List ℕ) (w : Written) (c : ℕ) : Type 0 where
+pub record Ran (old : List ℕ) (w : SoFar) (c : ℕ) : Type 0 where
   pub state : ℕ
   pub runs-on : Running old w state c

@@ -11,8 +11,8 @@ use Rattle.bits.specs.Binary.{Binary}
 use Rattle.bits.specs.Binary.Parts.{binary-append, binary-bits}
 use Rattle.bits.specs.Bits.{bitsOf, number}
 use Rattle.bits.specs.Bits.Numbers.{length-bits, number-lt, bits-number}
-use Rattle.merging.specs.Agree.{better-keeps, word-keeps, passes}
-use Rattle.merging.specs.Automaton.{start22}
+use Rattle.merging.specs.Chosen.Better.{better-keeps, word-keeps}
+use Rattle.merging.specs.Automaton.{passes, start22}
 use Rattle.merging.specs.Chosen.{beforeHeader, m100, m000}
 use Rattle.merging.specs.Rule.{header}
 use Rattle.choosing.specs.declared.header.Tail.{Tail}

@@ -9,7 +9,7 @@ use borrow.Author.Tests.{lt-ltb, le-leb}
 use lib.Dec.{leb, ltb, leb→le, ltb→lt}
 use lib.ListN.{length}
 use Rattle.outcome.specs.Table.Entries.{and-left, and-right, of-true, true-of}
-use Rattle.merging.specs.Levels.{ups-downs, level-le}
+use Rattle.merging.specs.Dsv.Levels.{ups-downs, level-le}
 use Rattle.choosing.specs.declared.Tally.{Tally}
 use Rattle.choosing.specs.declared.trace.Trace.{Trace}
 use Rattle.choosing.specs.Traces.{tallyAfter, light, fits, Light, Fit, Within}

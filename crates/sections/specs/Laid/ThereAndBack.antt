@@ -24,7 +24,7 @@ use Rattle.section_reader.specs.Reading.Standing.{byte-standing, mark-standing}
 use Rattle.section_writer.specs.Section.{wordAt}
 use Rattle.section_writer.specs.State.{right}
 use Rattle.section_writer.specs.WriteSay.{section, written, writeSay}
-use Rattle.merging.specs.Chosen.{Written}
+use Rattle.merging.specs.Chosen.{SoFar}
 use Rattle.sections.specs.Grown.Section.{grown-section}
 use Rattle.sections.specs.Laid.{laidByte, laidMark, laidBytes, laidMarks, wholeOf}
 use Rattle.sections.specs.Laid.Words.{at-word}
@@ -71,7 +71,7 @@ module _ (frames control : List ℕ) (hf : Bytes frames) (hc : Bytes control) wh
     pub whole : unpack (pack 7203 (section s frames control .bits)) ≡ section s frames control .bits
     whole =
         let g = grown-section s frames control in
-        let e : section s frames control .bits ≡ g .bits = ap (λ (x : Written). x .bits) (g .is) in
+        let e : section s frames control .bits ≡ g .bits = ap (λ (x : SoFar). x .bits) (g .is) in
         unpack-pack 7203 (section s frames control .bits) (subst Binary (sym e) (g .binary)) (ap length e ∙ g .long)
 
     -- the bytes of a Section are read back whole

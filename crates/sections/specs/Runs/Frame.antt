@@ -10,23 +10,25 @@ use Rattle.outcome.specs.Bytes.{Bytes}
 use Rattle.outcome.specs.Table.{tabulated}
 use Rattle.bits.specs.Bits.{bitsOf}
 use Rattle.words.specs.RunRule.{runs}
-use Rattle.merging.specs.Agree.{passes, header-agrees, header-passes}
-use Rattle.merging.specs.Automaton.{steps, live, start22}
+use Rattle.merging.specs.Automaton.{passes, steps, live, start22, StateOf}
+use Rattle.merging.specs.Ready.Agrees.{header-agrees, header-passes}
 use Rattle.bits.specs.Binary.{Binary}
-use Rattle.merging.specs.Chosen.{Written, after, dsvAfter, beforeHeader, withWord, withHeader, withTail}
-use Rattle.merging.specs.Places.{Placed, placed-header, placed-whole}
+use Rattle.merging.specs.Chosen.{SoFar, after, dsvAfter, beforeHeader, withWord, withHeader, withTail}
+use Rattle.merging.specs.Places.{Placed}
+use Rattle.merging.specs.Places.Kept.{placed-header, placed-whole}
 use Rattle.merging.specs.Ready.{ready}
 use Rattle.merging.specs.Rule.{header, allowed}
-use Rattle.merging.specs.Taken.{header-taken}
-use Rattle.merging.specs.Ties.{Tied, tied-header, steps-append, live-first}
+use Rattle.merging.specs.Ready.Taken.{header-taken}
+use Rattle.merging.specs.Automaton.Speaks.{state-header}
+use Rattle.merging.specs.Automaton.Steps.{steps-append, live-first}
 use Rattle.section_writer.specs.Section.{wordAt, frameWords, withWords, withFrame, withFrames}
-use Rattle.sections.specs.MergingBits.{header-three, header-binary}
+use Rattle.merging.specs.Chosen.ThreeBits.{header-three, header-binary}
 use Rattle.sections.specs.Runs.{Opening, Running, Ran}
 use Rattle.sections.specs.Runs.Word.{run-word, word-takes, more-own, more-tied, more-placed}
 
 module _ (frames control : List ℕ) (hf : Bytes frames) (hc : Bytes control) where
   -- some words of a frame
-  pub run-words : (old : List ℕ) (f k i : ℕ) (w : Written) (s : ℕ) → Running old w s (17 * k + 3) → (i ≡ 0 → s ≡ 12) → Ran old (withWords w (tabulated (wordAt frames control f) i k)) 3
+  pub run-words : (old : List ℕ) (f k i : ℕ) (w : SoFar) (s : ℕ) → Running old w s (17 * k + 3) → (i ≡ 0 → s ≡ 12) → Ran old (withWords w (tabulated (wordAt frames control f) i k)) 3
   unfolding withWords
   run-words old f zero i w s r g = record { state = s; runs-on = r }
   run-words old f (suc k) i w s r g =
@@ -37,17 +39,17 @@ module _ (frames control : List ℕ) (hf : Bytes frames) (hc : Bytes control) wh
   -- ---- a frame
 
   -- a Sync Header is written at its place
-  pub run-header : (old : List ℕ) (w : Written) → Opening old w → Running old (withHeader w) 12 564
+  pub run-header : (old : List ℕ) (w : SoFar) → Opening old w → Running old (withHeader w) 12 564
   unfolding withHeader ready
   run-header old w o =
       record {
         own = o .own;
-        tied = subst (λ (l : List ℕ). Tied l 12) (append-assoc old (w .bits) header) (o .all .tied);
+        tied = subst (λ (l : List ℕ). StateOf l 12) (append-assoc old (w .bits) header) (o .all .tied);
         places = subst (λ (l : List ℕ). Placed l 12 564) (append-assoc old (w .bits) header) (o .all .placed-then);
         at-ease = tt;
       }
 
-  run-tail : (old : List ℕ) (w : Written) (s : ℕ) → Running old w s 3 → Opening old (withTail w)
+  run-tail : (old : List ℕ) (w : SoFar) (s : ℕ) → Running old w s 3 → Opening old (withTail w)
   unfolding withTail
   run-tail old w s r =
       let dsv = dsvAfter (w .level) (w .plus) (w .minus) header in
@@ -62,10 +64,10 @@ module _ (frames control : List ℕ) (hf : Bytes frames) (hc : Bytes control) wh
       let p = more-placed old w s 3 r m 0 l b u in
       subst (λ (n : List ℕ). Opening old (after w n)) (sym e)
       (record {
-        own = tied-header (w .bits ++ m) (steps s m) (more-own old w s 3 r m b u) t;
+        own = state-header (w .bits ++ m) (steps s m) (more-own old w s 3 r m b u) t;
         all =
             record {
-              tied = tied-header (old ++ (w .bits ++ m)) (steps s m) d t;
+              tied = state-header (old ++ (w .bits ++ m)) (steps s m) d t;
               placed-then = placed-header (old ++ (w .bits ++ m)) (steps s m) p t;
               runs-so-far = ap runs (sym (append-nil (old ++ (w .bits ++ m)))) ∙ d .runs-on [];
               placed-so-far = placed-whole (old ++ (w .bits ++ m)) (steps s m) p;
@@ -73,14 +75,14 @@ module _ (frames control : List ℕ) (hf : Bytes frames) (hc : Bytes control) wh
       })
 
   -- a whole frame
-  pub run-frame : (old : List ℕ) (w : Written) (f : ℕ) → Opening old w → Opening old (withFrame w (frameWords frames control f))
+  pub run-frame : (old : List ℕ) (w : SoFar) (f : ℕ) → Opening old w → Opening old (withFrame w (frameWords frames control f))
   unfolding withFrame frameWords
   run-frame old w f o =
       let n = run-words old f 33 0 (withHeader w) 12 (run-header old w o) (λ _. refl) in
       run-tail old (withWords (withHeader w) (tabulated (wordAt frames control f) 0 33)) (n .state) (n .runs-on)
 
   -- some frames
-  pub run-frames : (old : List ℕ) (n f : ℕ) (w : Written) → Opening old w → Opening old (withFrames w frames control f n)
+  pub run-frames : (old : List ℕ) (n f : ℕ) (w : SoFar) → Opening old w → Opening old (withFrames w frames control f n)
   unfolding withFrames
   run-frames old zero f w o = o
   run-frames old (suc n) f w o = run-frames old n (suc f) (withFrame w (frameWords frames control f)) (run-frame old w f o)

@@ -10,32 +10,33 @@ use Rattle.outcome.specs.Bytes.{Bytes}
 use Rattle.bits.specs.Bits.{bitsOf}
 use Rattle.bits.specs.Bits.Numbers.{length-bits}
 use Rattle.words.specs.Words.{wordOf, sync0, sync1}
-use Rattle.merging.specs.Agree.{passes, Takes, taken, word-agrees, word-passes, word-ready}
-use Rattle.merging.specs.Automaton.{steps, live}
+use Rattle.merging.specs.Automaton.{passes, steps, live, StateOf}
+use Rattle.merging.specs.Ready.{Takes, ready}
+use Rattle.merging.specs.Ready.Agrees.{taken, word-agrees, word-passes, word-ready}
 use Rattle.bits.specs.Binary.{Binary}
 use Rattle.bits.specs.Binary.Parts.{binary-append, binary-bits}
-use Rattle.merging.specs.Chosen.{Written, after, dsvAfter, beforeWord, withWord}
-use Rattle.merging.specs.Places.{earlier, Placed, placed-more}
-use Rattle.merging.specs.Ready.{ready}
+use Rattle.merging.specs.Chosen.{SoFar, after, dsvAfter, beforeWord, withWord}
+use Rattle.merging.specs.Places.{earlier, Placed}
+use Rattle.merging.specs.Places.Kept.{placed-more}
 use Rattle.merging.specs.Rule.{allowed}
-use Rattle.merging.specs.Taken.{word-taken, sync0-taken, sync1-taken}
-use Rattle.merging.specs.Ties.{Tied, tied-more}
+use Rattle.merging.specs.Ready.Taken.{word-taken, sync0-taken, sync1-taken}
+use Rattle.merging.specs.Automaton.Speaks.{state-more}
 use Rattle.section_writer.specs.Section.{wordAt}
 use Rattle.sections.specs.Laid.Words.{at-word}
-use Rattle.sections.specs.MergingBits.{word-three, word-binary}
+use Rattle.merging.specs.Chosen.ThreeBits.{word-three, word-binary}
 use Rattle.sections.specs.Runs.{Running, Ran}
 
 earlier-plus : (n c : ℕ) → earlier n c ≡ n + c
 earlier-plus zero c = omega arith
 earlier-plus (suc n) c = omega (arith, earlier-plus n c)
 
-module _ (old : List ℕ) (w : Written) (s c : ℕ) (r : Running old w s c) where
+module _ (old : List ℕ) (w : SoFar) (s c : ℕ) (r : Running old w s c) where
   -- some bits on
-  pub more-own : (bs : List ℕ) → Binary bs → T (live (steps s bs)) → Tied (w .bits ++ bs) (steps s bs)
-  more-own bs b t = tied-more (w .bits) s bs (r .own) b t
+  pub more-own : (bs : List ℕ) → Binary bs → T (live (steps s bs)) → StateOf (w .bits ++ bs) (steps s bs)
+  more-own bs b t = state-more (w .bits) s bs (r .own) b t
 
-  pub more-tied : (bs : List ℕ) → Binary bs → T (live (steps s bs)) → Tied (old ++ (w .bits ++ bs)) (steps s bs)
-  more-tied bs b t = subst (λ (l : List ℕ). Tied l (steps s bs)) (append-assoc old (w .bits) bs) (tied-more (old ++ w .bits) s bs (r .tied) b t)
+  pub more-tied : (bs : List ℕ) → Binary bs → T (live (steps s bs)) → StateOf (old ++ (w .bits ++ bs)) (steps s bs)
+  more-tied bs b t = subst (λ (l : List ℕ). StateOf l (steps s bs)) (append-assoc old (w .bits) bs) (state-more (old ++ w .bits) s bs (r .tied) b t)
 
   pub more-placed : (bs : List ℕ) (d : ℕ) → c ≡ length bs + d → Binary bs → T (live (steps s bs)) → Placed (old ++ (w .bits ++ bs)) (steps s bs) d
   more-placed bs d e b t =
@@ -43,7 +44,7 @@ module _ (old : List ℕ) (w : Written) (s c : ℕ) (r : Running old w s c) wher
       (placed-more (old ++ w .bits) s d bs (subst (Placed (old ++ w .bits) s) (e ∙ sym (earlier-plus (length bs) d)) (r .places)) b t)
 
 -- a word that may come is written, after its Merging bits
-pub run-word : (old : List ℕ) (w : Written) (s c : ℕ) (x : ℕ) → Running old w s (17 + c) → Takes (bitsOf 14 x) s → Ran old (withWord w (bitsOf 14 x)) c
+pub run-word : (old : List ℕ) (w : SoFar) (s c : ℕ) (x : ℕ) → Running old w s (17 + c) → Takes (bitsOf 14 x) s → Ran old (withWord w (bitsOf 14 x)) c
 unfolding withWord
 run-word old w s c x r k =
     let bs = bitsOf 14 x in

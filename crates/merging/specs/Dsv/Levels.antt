@@ -30,15 +30,17 @@ level-le l [] h = h
 level-le l (zero ∷ bs) h = level-le l bs h
 level-le l (suc b ∷ bs) h = level-le (1 - l) bs (omega arith)
 
--- level and counts of bits after others
+-- the level after bits and then others
 pub level-append : (l : ℕ) (a b : List ℕ) → levelAfter l (a ++ b) ≡ levelAfter (levelAfter l a) b
 level-append l [] b = refl
 level-append l (x ∷ a) b = level-append (flip l x) a b
 
+-- the bits at level +1
 pub ups-append : (l : ℕ) (a b : List ℕ) → ups l (a ++ b) ≡ ups l a + ups (levelAfter l a) b
 ups-append l [] b = omega arith
 ups-append l (x ∷ a) b = omega (arith, ups-append (flip l x) a b)
 
+-- and those at -1
 pub downs-append : (l : ℕ) (a b : List ℕ) → downs l (a ++ b) ≡ downs l a + downs (levelAfter l a) b
 downs-append l [] b = omega arith
 downs-append l (x ∷ a) b = omega (arith, downs-append (flip l x) a b)

@@ -1,16 +1,10 @@
--- A fact of each number below a bound, given one by one; and, from `bits`, lists of the bits 0 and 1.
+-- What holds of each number below a bound holds of any.
 -- Assumes nothing.
 use mathlib.Core.Path.{_≡_, sym, subst}
 use mathlib.Core.Logic.{_⊎_, inl, inr}
 use Prim.Native.Nat.{ℕ, zero, suc, _<_}
 use native.Mathlib.Nat.{not-suc-le-zero, le-of-suc-le-suc, eq-or-lt-of-le}
-pub use Rattle.bits.specs.Binary.{Binary}
-pub use Rattle.bits.specs.Binary.Parts.{binary-append, binary-bits}
-
--- P (n - 1), .., P 0
-abbrev pub Each : (ℕ → Type 0) → ℕ → Type 0
-Each P zero = Unit {0}
-Each P (suc n) = P n × Each P n
+use Rattle.lists.specs.Each.{Each}
 
 pub case : (P : ℕ → Type 0) (n : ℕ) → Each P n → (k : ℕ) → k < n → P k
 case P zero e k h = absurd (not-suc-le-zero h)
