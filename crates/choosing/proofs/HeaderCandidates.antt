@@ -18,10 +18,10 @@ use Rattle.choosing.specs.declared.Tally.{Tally}
 use Rattle.choosing.specs.declared.header.Tail.{Tail}
 use Rattle.choosing.specs.declared.trace.Choice.{Choice}
 use Rattle.choosing.specs.declared.trace.Trace.{Trace}
-use Rattle.choosing.specs.Candidates.{HeaderStands, betterOf}
+use Rattle.choosing.specs.Inner.Candidates.{HeaderStands, betterOf}
 use Rattle.choosing.specs.Choices.{beforeNextHeader, chosenTail}
-use Rattle.choosing.specs.States.{headerAfterOne, headerAfterZeros}
-use Rattle.choosing.specs.Strokes.{spent}
+use Rattle.choosing.specs.Inner.States.{headerAfterOne, headerAfterZeros}
+use Rattle.choosing.specs.Inner.Strokes.{spent}
 use Rattle.choosing.specs.Traces.{tallyAfter, tallyDsv, Fit}
 use Rattle.choosing.proofs.BetterOf.{better-stands}
 use Rattle.choosing.proofs.RightStates.{header-one, header-zeros}

@@ -2,7 +2,7 @@
 ghost use mathlib.Core.Path.{_≡_};
 ghost use Prim.Native.Nat.{_+_, _*_, _<_};
 ghost use lib.ListN.{getD};
-ghost use Rattle.choosing.specs.Profiles.{profileOf, rows};
+ghost use Rattle.choosing.specs.Inner.Profiles.{profileOf, rows};
 ghost use Rattle.words.specs.Symbols.{symbols};
 use crate::table;
 

@@ -2,7 +2,7 @@
 ghost use mathlib.Core.Path.{_≡_};
 ghost use Rattle.merging.specs.Dsv.{absolute};
 ghost use Rattle.choosing.specs.Traces.{light, fits};
-ghost use Rattle.choosing.specs.Candidates.{betterOf};
+ghost use Rattle.choosing.specs.Inner.Candidates.{betterOf};
 use crate::Tally;
 
 // What was written so far, as far as it matters to the Merging bits that follow: the automaton's state, and the tally.

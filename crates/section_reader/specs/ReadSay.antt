@@ -15,10 +15,10 @@ pub mod NeverEight
 pub mod AsBefore
 
 -- document 01's number and values for each answer
-abbrev pub sayRead : SectionRead → Say
-sayRead Done = done []
-sayRead WrongIncoming = refused 1 []
-sayRead WrongOutgoing = refused 2 []
+abbrev pub sayOf : SectionRead → Say
+sayOf Done = done []
+sayOf WrongIncoming = refused 1 []
+sayOf WrongOutgoing = refused 2 []
 
 -- all that reading does: what it says, and what both buffers then hold
 pub record ReadOut : Type 0 where

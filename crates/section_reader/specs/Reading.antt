@@ -14,7 +14,7 @@ use Rattle.words.specs.Words.{byteOf, sync0, sync1}
 pub mod Places
 pub mod Alone
 pub mod Lost
-pub mod Standing
+pub mod WordByWord
 
 -- the number of n bits from bit p on
 abbrev pub fieldAt : List ℕ → ℕ → ℕ → ℕ

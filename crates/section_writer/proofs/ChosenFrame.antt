@@ -29,8 +29,8 @@ use Rattle.words.specs.Symbols.{symbols, bitsAt, wordsOf}
 use Rattle.words.specs.Symbols.Which.{symbol-word, symbol-256, symbol-257}
 use Rattle.choosing.specs.Traces.{tallyAfter, tallyDsv, light, fits, Within}
 use Rattle.choosing.specs.Traces.Room.{room-light, fit-fits, within-light, within-after}
-use Rattle.section_writer.specs.BufferBits.{wordBits}
-use Rattle.section_writer.specs.FrameSteps.{noted, Opens}
+use Rattle.section_writer.specs.Inner.BufferBits.{wordBits}
+use Rattle.section_writer.specs.Inner.FrameSteps.{noted, Opens}
 use Rattle.section_writer.specs.Section.{withWords, withFrame}
 use Rattle.section_writer.proofs.ChosenWords.{Stands, Leads, AllBytes, word-leads, words-lead, leads-more}
 

@@ -25,8 +25,8 @@ use Rattle.words.specs.Symbols.{symbols, bitsAt, wordsOf}
 use Rattle.words.specs.Symbols.Which.{symbol-word}
 use Rattle.choosing.specs.Traces.{traceAfter, tallyDsv, fits, Within}
 use Rattle.choosing.specs.Traces.Room.{fit-fits, within-light, within-after}
-use Rattle.section_writer.specs.BufferBits.{wordBits}
-use Rattle.section_writer.specs.FrameSteps.{noted}
+use Rattle.section_writer.specs.Inner.BufferBits.{wordBits}
+use Rattle.section_writer.specs.Inner.FrameSteps.{noted}
 use Rattle.section_writer.specs.Section.{withWords}
 
 -- where a writer stands between two words, after the bits `past`: the trace's state is theirs, and its counts are not above n

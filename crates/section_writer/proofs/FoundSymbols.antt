@@ -13,7 +13,7 @@ use Rattle.outcome.specs.Table.{tabulated}
 use Rattle.outcome.specs.Table.Entries.{length-tabulated, tabulated-at}
 use Rattle.words.specs.Symbols.{wordsOf}
 use Rattle.words.specs.Symbols.Which.{symbol-word, symbol-256, symbol-257, words-length, words-at}
-use Rattle.section_writer.specs.FrameSteps.{SymbolFound, SymbolsFound}
+use Rattle.section_writer.specs.Inner.FrameSteps.{SymbolFound, SymbolsFound}
 use Rattle.section_writer.specs.Section.{wordAt, frameWords}
 
 module _ (frames control : List ℕ) (f i : ℕ) where

@@ -17,11 +17,11 @@ use Rattle.choosing.specs.Choices.{frameChoice, afterHeader, wordsTrace}
 use Rattle.choosing.specs.Choices.Digits.{words-small, tail-small}
 use Rattle.words.specs.Symbols.{wordsOf}
 use Rattle.choosing.specs.Traces.{Within}
-use Rattle.section_state.specs.Carried.Range.{farthest}
+use Rattle.section_state.specs.Carried.{farthest}
 use Rattle.section_writer.specs.declared.frame.Writing.{Writing}
 use Rattle.section_writer.specs.declared.pen.Pen.{Pen}
-use Rattle.section_writer.specs.BufferBits.{inked, penPlace, Inked, wordBits, WordsInked}
-use Rattle.section_writer.specs.FrameSteps.{SymbolsFound, noted, Resting, FrameDue, FrameDone, sectionEnd, FramesDone}
+use Rattle.section_writer.specs.Inner.BufferBits.{inked, penPlace, Inked, wordBits, WordsInked}
+use Rattle.section_writer.specs.Inner.FrameSteps.{SymbolsFound, noted, Resting, FrameDue, FrameDone, sectionEnd, FramesDone}
 use Rattle.section_writer.specs.Section.{frameWords, withFrame, withFrames, sectionAfter}
 use Rattle.section_writer.proofs.ChosenFrame.{Ends, FrameFits, frameBits, frame-ends}
 use Rattle.section_writer.proofs.ChosenWords.{AllBytes}

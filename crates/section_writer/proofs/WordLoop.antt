@@ -10,7 +10,7 @@ use lib.ListN.{length, getD, take}
 use lib.Seq.{take-all}
 use Rattle.bits.specs.Bits.{bitsOf}
 use Rattle.section_writer.specs.declared.pen.Pen.{Pen}
-use Rattle.section_writer.specs.BufferBits.{inked, penPlace, Held, Inked, wordBits, WordsInked}
+use Rattle.section_writer.specs.Inner.BufferBits.{inked, penPlace, Held, Inked, wordBits, WordsInked}
 
 -- one word more
 word-bits-more : (vs : List ℕ) (i : ℕ) → i < length vs → wordBits (take (suc i) vs) ≡ wordBits (take i vs) ++ bitsOf 17 (getD vs i 0)

@@ -7,6 +7,7 @@ use lib.ListN.{length}
 use Rattle.bits.specs.Binary.{Binary}
 use Rattle.merging.specs.Chosen.{SoFar, after}
 pub mod Section
+pub mod StateStays
 
 -- w′ is w and n bits more
 pub record Grown (n : ℕ) (w w′ : SoFar) : Type 0 where

@@ -7,7 +7,7 @@ use Prim.Native.Nat.{ℕ, _<_}
 use Rattle.outcome.specs.Say.{leaves}
 use Rattle.bits.specs.Bits.{unpack}
 use Rattle.section_reader.specs.Reading.{headless}
-use Rattle.section_reader.specs.Reading.Standing.{bytesOfWords, marksOfWords, bytes-as-before, marks-as-before}
+use Rattle.section_reader.specs.Reading.WordByWord.{bytesOfWords, marksOfWords, bytes-as-before, marks-as-before}
 use Rattle.section_reader.specs.ReadSay.{readOut, readSay, sectionRead}
 
 pub as-before : (channel bytes marks : List ℕ) → ((f : ℕ) → f < 98 → headless (unpack channel) f ≡ false)

@@ -16,7 +16,7 @@ use Rattle.calls.specs.Calls.{run}
 use Rattle.section_writer.specs.declared.SectionWriter.{SectionWriter}
 use Rattle.section_writer.specs.State.{fresh, right}
 use Rattle.section_writer.specs.WriteSay.{afterSection, writeSay, written}
-use Rattle.sections.specs.Carried.{state-stays-right, fresh-right}
+use Rattle.sections.specs.Grown.StateStays.{state-stays-right, fresh-right}
 use Rattle.sections.specs.Calls.{Call, writes, sayAfter, says}
 use Rattle.sections.specs.Calls.Streams.{when-done, made, refused-stays}
 

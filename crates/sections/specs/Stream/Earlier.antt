@@ -8,11 +8,11 @@ use Rattle.bits.specs.Bits.{bitsOf}
 use Rattle.merging.specs.Chosen.{SoFar, withWord, withHeader, withTail}
 use Rattle.merging.specs.Chosen.Behind.{Begun, behind, begun-header, begun-word, begun-tail, word-behind, header-behind, tail-behind}
 use Rattle.merging.specs.Rule.{header}
-use Rattle.merging.specs.Automaton.{StateOf}
+use Rattle.merging.specs.Automaton.{headed, StateOf}
 use Rattle.section_writer.specs.declared.SectionWriter.{SectionWriter}
 use Rattle.section_writer.specs.Section.{frameWords, withWords, withFrame, withFrames, sectionAfter}
 use Rattle.section_writer.specs.WriteSay.{section, afterSection}
-use Rattle.sections.specs.Runs.{Opens}
+use Rattle.sections.specs.RuleHolds.{Opens}
 use Rattle.sections.specs.Stream.{Part, streamOf, atStart, sectionAmong, streamAmong}
 use Rattle.sections.specs.Stream.Rules.{opens-none, one-section}
 
@@ -29,7 +29,7 @@ begun-frame w ws b = begun-header (withFrame w ws) (inr (begun-tail (withWords (
 
 -- ---- behind the bits `old` the same is written
 
-module _ (old : List ℕ) (follows : StateOf (old ++ header) 12) where
+module _ (old : List ℕ) (follows : StateOf (old ++ header) headed) where
   words-behind : (ws : List ℕ) (w : SoFar) → Begun w → withWords (behind old w) ws ≡ behind old (withWords w ws)
   unfolding withWords
   words-behind [] w b = refl

@@ -19,8 +19,8 @@ use Rattle.merging.specs.Automaton.Speaks.{state-first}
 use Rattle.section_writer.specs.declared.SectionWriter.{SectionWriter}
 use Rattle.section_writer.specs.Section.{sectionAfter}
 use Rattle.section_writer.specs.WriteSay.{section, afterSection}
-use Rattle.sections.specs.Runs.{Opens}
-use Rattle.sections.specs.Runs.Frame.{run-frames}
+use Rattle.sections.specs.RuleHolds.{Opens}
+use Rattle.sections.specs.RuleHolds.Frame.{run-frames}
 use Rattle.sections.specs.Stream.{Part, streamOf, atStart}
 
 -- before anything is written a Sync Header may come

@@ -5,10 +5,10 @@ use mathlib.Core.Path.{_≡_}
 use mathlib.Core.List.{List, [], _∷_, _++_}
 use Prim.Native.Nat.{ℕ, zero, suc, _/_, _%_, _≤_, _<_, _^_}
 use Rattle.bits.specs.Bits.{bitsOf}
-use Rattle.merging.specs.Automaton.{steps}
+use Rattle.merging.specs.Automaton.{broken, steps}
 use Rattle.merging.specs.Dsv.{ups, levelAfter}
 use Rattle.choosing.specs.declared.profile.Profile.{Profile}
-use Rattle.choosing.specs.States.{entered}
+use Rattle.choosing.specs.Inner.States.{entered}
 
 -- the ZEROs before the first ONE, and what comes after it
 abbrev pub leadOf : List ℕ → ℕ
@@ -35,11 +35,11 @@ profileOf w =
 -- a profile that holds what the choice goes by
 pub record Profiled (w : ℕ) (p : Profile) : Type 0 where
   pub is : p ≡ profileOf w
-  pub leads : (s : ℕ) → s < 22 → steps s (bitsOf 14 w) ≡ entered s (p .lead) (p .plain) (p .ten)
+  pub leads : (s : ℕ) → s < broken → steps s (bitsOf 14 w) ≡ entered s (p .lead) (p .plain) (p .ten)
   pub word-small : w < 2 ^ 14
   pub lead-small : p .lead ≤ 10
-  pub plain-small : p .plain ≤ 22
-  pub ten-small : p .ten ≤ 22
+  pub plain-small : p .plain ≤ broken
+  pub ten-small : p .ten ≤ broken
   pub odd-small : p .odd ≤ 1
   pub ups-small : p .ups ≤ 14
 

@@ -6,7 +6,7 @@ use mathlib.Core.List.{List, _++_}
 use Prim.Native.Nat.{ℕ, zero, suc, _<_, _^_}
 use lib.Dec.{eqb, ltb}
 use Rattle.bits.specs.Bits.{bitsOf}
-use Rattle.merging.specs.Automaton.{steps, start22}
+use Rattle.merging.specs.Automaton.{broken, steps, start22}
 use Rattle.merging.specs.Chosen.{m100, m010, m001}
 use Rattle.merging.specs.Dsv.{absolute}
 use Rattle.merging.specs.Rule.{header}
@@ -36,6 +36,6 @@ pub record HeaderStands (t : Trace) (c : Choice) (m : List ℕ) : Type 0 where
 -- the second if it alone is allowed, or if both are and it has the smaller absolute DSV
 unfoldable pub betterOf : Choice → Choice → Choice
 betterOf a b =
-    cond (eqb (b .after .run) 22) a
-    (cond (eqb (a .after .run) 22) b
+    cond (eqb (b .after .run) broken) a
+    (cond (eqb (a .after .run) broken) b
     (cond (ltb (absolute (b .after .tally .plus) (b .after .tally .minus)) (absolute (a .after .tally .plus) (a .after .tally .minus))) b a))

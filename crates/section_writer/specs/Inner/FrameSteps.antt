@@ -11,10 +11,9 @@ use Rattle.merging.specs.Automaton.{StateOf, headed}
 use Rattle.choosing.specs.declared.Tally.{Tally}
 use Rattle.words.specs.Symbols.{symbols}
 use Rattle.choosing.specs.Traces.{Within}
-use Rattle.section_state.specs.Carried.{sectionBits}
-use Rattle.section_state.specs.Carried.Range.{farthest}
+use Rattle.section_state.specs.Carried.{sectionBits, farthest}
 use Rattle.section_writer.specs.declared.frame.Writing.{Writing}
-use Rattle.section_writer.specs.BufferBits.{inked, penPlace, Held}
+use Rattle.section_writer.specs.Inner.BufferBits.{inked, penPlace, Held}
 use Rattle.section_writer.specs.Section.{wordAt, frameWords, withFrame, sectionAfter}
 
 -- r is the symbol of word i of frame f, and after the Control place the symbol of a byte

@@ -10,7 +10,7 @@ use Rattle.outcome.specs.Bytes.{Bytes}
 use Rattle.outcome.specs.Table.{tabulated}
 use Rattle.bits.specs.Bits.{bitsOf}
 use Rattle.words.specs.RunRule.{runs}
-use Rattle.merging.specs.Automaton.{passes, steps, live, start22, StateOf}
+use Rattle.merging.specs.Automaton.{headed, passes, steps, live, start22, StateOf}
 use Rattle.merging.specs.Ready.Agrees.{header-agrees, header-passes}
 use Rattle.bits.specs.Binary.{Binary}
 use Rattle.merging.specs.Chosen.{SoFar, after, dsvAfter, beforeHeader, withWord, withHeader, withTail}
@@ -23,12 +23,12 @@ use Rattle.merging.specs.Automaton.Speaks.{state-header}
 use Rattle.merging.specs.Automaton.Steps.{steps-append, live-first}
 use Rattle.section_writer.specs.Section.{wordAt, frameWords, withWords, withFrame, withFrames}
 use Rattle.merging.specs.Chosen.ThreeBits.{header-three, header-binary}
-use Rattle.sections.specs.Runs.{Opening, Running, Ran}
-use Rattle.sections.specs.Runs.Word.{run-word, word-takes, more-own, more-tied, more-placed}
+use Rattle.sections.specs.RuleHolds.{Opening, Running, Ran}
+use Rattle.sections.specs.RuleHolds.Word.{run-word, word-takes, more-own, more-tied, more-placed}
 
 module _ (frames control : List ℕ) (hf : Bytes frames) (hc : Bytes control) where
   -- some words of a frame
-  pub run-words : (old : List ℕ) (f k i : ℕ) (w : SoFar) (s : ℕ) → Running old w s (17 * k + 3) → (i ≡ 0 → s ≡ 12) → Ran old (withWords w (tabulated (wordAt frames control f) i k)) 3
+  pub run-words : (old : List ℕ) (f k i : ℕ) (w : SoFar) (s : ℕ) → Running old w s (17 * k + 3) → (i ≡ 0 → s ≡ headed) → Ran old (withWords w (tabulated (wordAt frames control f) i k)) 3
   unfolding withWords
   run-words old f zero i w s r g = record { state = s; runs-on = r }
   run-words old f (suc k) i w s r g =
@@ -39,13 +39,13 @@ module _ (frames control : List ℕ) (hf : Bytes frames) (hc : Bytes control) wh
   -- ---- a frame
 
   -- a Sync Header is written at its place
-  pub run-header : (old : List ℕ) (w : SoFar) → Opening old w → Running old (withHeader w) 12 564
+  pub run-header : (old : List ℕ) (w : SoFar) → Opening old w → Running old (withHeader w) headed 564
   unfolding withHeader ready
   run-header old w o =
       record {
         own = o .own;
-        tied = subst (λ (l : List ℕ). StateOf l 12) (append-assoc old (w .bits) header) (o .all .tied);
-        places = subst (λ (l : List ℕ). Placed l 12 564) (append-assoc old (w .bits) header) (o .all .placed-then);
+        tied = subst (λ (l : List ℕ). StateOf l headed) (append-assoc old (w .bits) header) (o .all .tied);
+        places = subst (λ (l : List ℕ). Placed l headed 564) (append-assoc old (w .bits) header) (o .all .placed-then);
         at-ease = tt;
       }
 
@@ -78,7 +78,7 @@ module _ (frames control : List ℕ) (hf : Bytes frames) (hc : Bytes control) wh
   pub run-frame : (old : List ℕ) (w : SoFar) (f : ℕ) → Opening old w → Opening old (withFrame w (frameWords frames control f))
   unfolding withFrame frameWords
   run-frame old w f o =
-      let n = run-words old f 33 0 (withHeader w) 12 (run-header old w o) (λ _. refl) in
+      let n = run-words old f 33 0 (withHeader w) headed (run-header old w o) (λ _. refl) in
       run-tail old (withWords (withHeader w) (tabulated (wordAt frames control f) 0 33)) (n .state) (n .runs-on)
 
   -- some frames

@@ -10,7 +10,7 @@ use Rattle.outcome.specs.Bytes.{Bytes}
 use Rattle.bits.specs.Bits.{bitsOf}
 use Rattle.bits.specs.Bits.Numbers.{length-bits}
 use Rattle.words.specs.Words.{wordOf, sync0, sync1}
-use Rattle.merging.specs.Automaton.{passes, steps, live, StateOf}
+use Rattle.merging.specs.Automaton.{headed, passes, steps, live, StateOf}
 use Rattle.merging.specs.Ready.{Takes, ready}
 use Rattle.merging.specs.Ready.Agrees.{taken, word-agrees, word-passes, word-ready}
 use Rattle.bits.specs.Binary.{Binary}
@@ -24,7 +24,7 @@ use Rattle.merging.specs.Automaton.Speaks.{state-more}
 use Rattle.section_writer.specs.Section.{wordAt}
 use Rattle.sections.specs.Laid.Words.{at-word}
 use Rattle.merging.specs.Chosen.ThreeBits.{word-three, word-binary}
-use Rattle.sections.specs.Runs.{Running, Ran}
+use Rattle.sections.specs.RuleHolds.{Running, Ran}
 
 earlier-plus : (n c : ℕ) → earlier n c ≡ n + c
 earlier-plus zero c = omega arith
@@ -67,9 +67,9 @@ run-word old w s c x r k =
     })
 
 -- a word of a frame may come where a writer stands, the first one after a Sync Header
-pub word-takes : (frames control : List ℕ) (f i s : ℕ) → Bytes frames → Bytes control → T (ready s) → (i ≡ 0 → s ≡ 12) → Takes (bitsOf 14 (wordAt frames control f i)) s
+pub word-takes : (frames control : List ℕ) (f i s : ℕ) → Bytes frames → Bytes control → T (ready s) → (i ≡ 0 → s ≡ headed) → Takes (bitsOf 14 (wordAt frames control f i)) s
 word-takes frames control f i s hf hc t g =
     at-word frames control hf hc (λ w _. Takes (bitsOf 14 w) s) f i 0 0 (λ x. x)
-    (λ z. subst (Takes (bitsOf 14 sync0)) (sym (g z)) (taken (bitsOf 14 sync0) 12 sync0-taken))
-    (λ z. subst (Takes (bitsOf 14 sync1)) (sym (g z)) (taken (bitsOf 14 sync1) 12 sync1-taken))
+    (λ z. subst (Takes (bitsOf 14 sync0)) (sym (g z)) (taken (bitsOf 14 sync0) headed sync0-taken))
+    (λ z. subst (Takes (bitsOf 14 sync1)) (sym (g z)) (taken (bitsOf 14 sync1) headed sync1-taken))
     (λ x h. taken (bitsOf 14 (wordOf x)) s (word-taken x s h t))

@@ -15,7 +15,8 @@ use Rattle.merging.specs.Chosen.{SoFar}
 use Rattle.merging.specs.Dsv.{ups, downs}
 use Rattle.merging.specs.Dsv.Levels.{ups-downs}
 use Rattle.section_writer.specs.declared.SectionWriter.{SectionWriter}
-use Rattle.section_writer.specs.State.{fresh, right, levelRight, above, below, levelNow, levelThen}
+use Rattle.section_writer.specs.State.{fresh, right}
+use Rattle.section_state.specs.Carried.{levelRight, above, below, levelNow, levelThen}
 use Rattle.section_writer.specs.WriteSay.{section, afterSection}
 use Rattle.sections.specs.Stream.{atStart}
 use Rattle.sections.specs.Grown.Section.{grown-section}

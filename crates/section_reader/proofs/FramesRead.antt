@@ -1,4 +1,4 @@
--- Reading frame after frame: each fills its part of both buffers, whether it was read or is lost.
+-- Frame after frame: each fills its part of both buffers, whether it was read or is lost.
 -- Assumes nothing.
 use mathlib.Core.Path.{_≡_, refl, sym, ap, _∙_, subst}
 use mathlib.Core.Bool.{Bool, true, false}
@@ -16,7 +16,7 @@ use Rattle.section_reader.specs.declared.reader.Frame.the-variants.{Read
 use Rattle.section_reader.specs.Reading.{headless, bytesRead, marksRead}
 use Rattle.section_reader.specs.Reading.Places.{long-bytes, long-marks}
 use Rattle.section_reader.specs.Reading.Lost.{bytes-lost, marks-lost}
-use Rattle.section_reader.specs.Reading.Standing.{bytes-standing, marks-standing}
+use Rattle.section_reader.specs.Reading.WordByWord.{bytes-standing, marks-standing}
 use Rattle.section_reader.specs.Inner.Framed.{FrameRead, frameSays, wordBytes, wordMarks}
 
 -- what the answer tells of the frame
@@ -29,13 +29,13 @@ told-missed true r p q = refl
 told-missed false r p q = cc
 
 -- f frames of both buffers, which held b and m, are read
-pub record Going (channel b m : List ℕ) (f : ℕ) (bytes marks : List ℕ) : Type 0 where
+pub record FramesRead (channel b m : List ℕ) (f : ℕ) (bytes marks : List ℕ) : Type 0 where
   pub upto : f ≤ 98
   pub of-bytes : Filling b (bytesRead (unpack channel)) (33 * f) bytes
   pub of-marks : Filling m (marksRead (unpack channel)) (33 * f) marks
 
-pub going-none : (channel b m : List ℕ) → length b ≡ 3234 → length m ≡ 3234 → Going channel b m 0 b m
-going-none channel b m p q =
+pub frames-none : (channel b m : List ℕ) → length b ≡ 3234 → length m ≡ 3234 → FramesRead channel b m 0 b m
+frames-none channel b m p q =
     record {
       upto = omega arith;
       of-bytes = filling-none b (bytesRead (unpack channel)) (p ∙ sym (long-bytes (unpack channel)));
@@ -57,23 +57,23 @@ part-more d s out part f g h e =
     rw (part-back (33 * f) (33 * f + 33) out part (omega arith))
     (subst (λ (n : ℕ). Filling d s n (take (33 * f) out ++ (part ++ drop (33 * f + 33) out))) next (filling-part g 33 part h e))
 
-module _ {channel b m : List ℕ} {f : ℕ} {bytes marks : List ℕ} (g : Going channel b m f bytes marks) where
-  pub going-long : (length bytes ≡ 3234) × (length marks ≡ 3234)
-  going-long = (
+module _ {channel b m : List ℕ} {f : ℕ} {bytes marks : List ℕ} (g : FramesRead channel b m f bytes marks) where
+  pub frames-long : (length bytes ≡ 3234) × (length marks ≡ 3234)
+  frames-long = (
     filling-long (g .of-bytes) ∙ g .of-bytes .fits ∙ long-bytes (unpack channel),
     filling-long (g .of-marks) ∙ g .of-marks .fits ∙ long-marks (unpack channel),
   )
 
   -- there is room for one frame more
-  pub going-room : f < 98 → (length (lent f bytes) ≡ 33) × (length (lent f marks) ≡ 33)
-  going-room h =
-      let l = going-long in (
+  pub frames-room : f < 98 → (length (lent f bytes) ≡ 33) × (length (lent f marks) ≡ 33)
+  frames-room h =
+      let l = frames-long in (
         mid-len (33 * f) (33 * f + 33) bytes (omega arith) ∙ omega arith,
         mid-len (33 * f) (33 * f + 33) marks (omega arith) ∙ omega arith,
       )
 
-  pub going-all : 98 ≤ f → (bytes ≡ bytesRead (unpack channel)) × (marks ≡ marksRead (unpack channel))
-  going-all h = (
+  pub frames-all : 98 ≤ f → (bytes ≡ bytesRead (unpack channel)) × (marks ≡ marksRead (unpack channel))
+  frames-all h = (
     filling-all (g .of-bytes) (omega (arith, long-bytes (unpack channel))),
     filling-all (g .of-marks) (omega (arith, long-marks (unpack channel))),
   )
@@ -81,7 +81,7 @@ module _ {channel b m : List ℕ} {f : ℕ} {bytes marks : List ℕ} (g : Going 
   module _ (h : f < 98) where
     -- both buffers with what frame f gives in its places
     frame-more : (x y : List ℕ) → x ≡ take 33 (drop (33 * f) (bytesRead (unpack channel))) → y ≡ take 33 (drop (33 * f) (marksRead (unpack channel)))
-        → Going channel b m (f + 1) (back f bytes x) (back f marks y)
+        → FramesRead channel b m (f + 1) (back f bytes x) (back f marks y)
     frame-more x y p q =
         record {
           upto = omega arith;
@@ -91,9 +91,9 @@ module _ {channel b m : List ℕ} {f : ℕ} {bytes marks : List ℕ} (g : Going 
 
     module _ {x y : List ℕ} (r : Frame) (a : FrameRead channel f (lent f bytes) (lent f marks) x y r) where
       -- frame f is read
-      pub going-read : r ≡ Read → Going channel b m (f + 1) (back f bytes x) (back f marks y)
+      pub frames-read : r ≡ Read → FramesRead channel b m (f + 1) (back f bytes x) (back f marks y)
       unfolding wordBytes wordMarks
-      going-read e =
+      frames-read e =
           let t = told-read (headless (unpack channel) f) r (a .says) e in
           frame-more x y ((rw t at (a .bytes-are)) ∙ sym (bytes-standing (unpack channel) f t h)) ((rw t at (a .marks-are)) ∙ sym (marks-standing (unpack channel) f t h))
 
@@ -108,18 +108,18 @@ module _ {channel b m : List ℕ} {f : ℕ} {bytes marks : List ℕ} (g : Going 
       pub missed-long : r ≡ NoHeader → (length (back f bytes x) ≡ 3234) × (length (back f marks y) ≡ 3234)
       missed-long e =
           let s = same-missed e in
-          (ap length (s .0) ∙ going-long .0, ap length (s .1) ∙ going-long .1)
+          (ap length (s .0) ∙ frames-long .0, ap length (s .1) ∙ frames-long .1)
 
       pub missed-room : r ≡ NoHeader → (length (lent f (back f bytes x)) ≡ 33) × (length (lent f (back f marks y)) ≡ 33)
       missed-room e =
           let s = same-missed e in
-          let room = going-room h in
+          let room = frames-room h in
           (ap (λ (o : List ℕ). length (lent f o)) (s .0) ∙ room .0, ap (λ (o : List ℕ). length (lent f o)) (s .1) ∙ room .1)
 
       -- and zeros and marks 4 come into its places
-      pub going-lost : r ≡ NoHeader → (u v : List ℕ) → u ≡ replicate 33 0 → v ≡ replicate 33 4
-          → Going channel b m (f + 1) (back f (back f bytes x) u) (back f (back f marks y) v)
-      going-lost e u v p q =
+      pub frames-lost : r ≡ NoHeader → (u v : List ℕ) → u ≡ replicate 33 0 → v ≡ replicate 33 4
+          → FramesRead channel b m (f + 1) (back f (back f bytes x) u) (back f (back f marks y) v)
+      frames-lost e u v p q =
           let t = told-missed (headless (unpack channel) f) r (a .says) e in
           let s = same-missed e in
           rw (s .0, s .1) (frame-more u v (p ∙ sym (bytes-lost (unpack channel) f t h)) (q ∙ sym (marks-lost (unpack channel) f t h)))
