@@ -8,15 +8,16 @@ use native.Mathlib.Omega.{arith}
 use lib.Dec.{T, leb, ltb, ltb→lt}
 use lib.ListN.{getD}
 use Rattle.outcome.specs.Table.{allBelow}
-use Rattle.outcome.specs.Table.Entries.{below, and-left, and-right, and-both}
+use Rattle.outcome.specs.Table.Entries.{below, and-left, and-both}
 use Rattle.bits.specs.Bits.{bitsOf}
+use Rattle.words.specs.Symbols.{symbols, bitsAt}
 use Rattle.words.specs.Symbols.Which.{symbol-word}
 use Rattle.words.specs.Words.{words, wordOf, sync0, sync1}
 use Rattle.words.specs.Words.Facts.{not-sync0}
 use Rattle.merging.specs.Automaton.{broken, headed, step, steps, live, passes}
 use Rattle.merging.specs.Chosen.{forWord, m100, m010, m001, m000}
 use Rattle.merging.specs.Ready.{ready, ruled, agrees, wordAgrees, takes, headerAgrees, takesHeader}
-use Rattle.merging.specs.Ready.Apart.{apart-only}
+use Rattle.merging.specs.Ready.Apart.{apart-only, ready-after}
 use Rattle.merging.specs.Rule.{headers}
 
 -- where a writer stands no rule is broken
@@ -28,60 +29,49 @@ when : (t x : Bool) → T (cond t x true) → T t → T x
 when true x a b = a
 when false x a b = absurd b
 
--- ---- a word: rule and automaton agree on it; that a writer stands after it again is computed
+-- ---- a word: rule and automaton agree on it, and a writer stands after it again; that some Merging bits pass is computed
 
--- what passes leads to where a writer stands
-again : List ℕ → ℕ → List ℕ → Bool
-again bs s m = cond (passes s bs m) (ready (steps s (m ++ bs))) true
+somePass : List ℕ → ℕ → Bool
+somePass bs s = cond (ready s) (passes s bs m100 || (passes s bs m010 || (passes s bs m001 || passes s bs m000))) true
 
-goesOn : List ℕ → ℕ → Bool
-goesOn bs s =
-    cond (ready s)
-    ((again bs s m100 && (again bs s m010 && (again bs s m001 && again bs s m000)))
-    && (passes s bs m100 || (passes s bs m010 || (passes s bs m001 || passes s bs m000)))) true
+all-some : T (allBelow (λ b. allBelow (somePass (bitsOf 14 (wordOf b))) broken) 256)
+unfolding somePass words ready step
+all-some = tt
 
-all-go-on : T (allBelow (λ b. allBelow (goesOn (bitsOf 14 (wordOf b))) broken) 256)
-unfolding goesOn again words ready step
-all-go-on = tt
-
-agreeing : (e : ℕ) (rule : Bool) → rule ≡ live e → T (cond (live e) (ready e) true) → T (agrees e rule)
+agreeing : (e : ℕ) (rule : Bool) → rule ≡ live e → (T (live e) → T (ready e)) → T (agrees e rule)
 unfolding agrees
-agreeing e rule p t = subst (λ (r : Bool). T (agrees e r)) (sym p) (go (live e) t)
+agreeing e rule p f = subst (λ (r : Bool). T (agrees e r)) (sym p) (go (live e) f)
   where
-    go : (l : Bool) → T (cond l (ready e) true) → T (cond l (l && ready e) (not l))
-    go true u = u
-    go false u = tt
+    go : (l : Bool) → (T l → T (ready e)) → T (cond l (l && ready e) (not l))
+    go true g = g tt
+    go false g = tt
 
 module _ (b s : ℕ) (h : b < 256) (t : T (ready s)) where
-  word-rule : (j : ℕ) → j < 4 → ruled 0 s (getD forWord j [] ++ bitsOf 14 (wordOf b)) ≡ live (steps s (getD forWord j [] ++ bitsOf 14 (wordOf b)))
-  word-rule j l =
-      subst (λ (w : ℕ). ruled 0 s (getD forWord j [] ++ bitsOf 14 w) ≡ live (steps s (getD forWord j [] ++ bitsOf 14 w))) (symbol-word b h)
-      (apart-only b s j (omega arith) (ready-lt s t) l (λ e p q. not-sync0 b h (sym (symbol-word b h) ∙ e)))
+  symbol-agrees : (j : ℕ) → j < 4 → T (wordAgrees (bitsAt b) s (getD forWord j []))
+  unfolding wordAgrees
+  symbol-agrees j l =
+      let bs = getD forWord j [] ++ bitsAt b in
+      let low : b < 258 = omega arith in
+      let no : getD symbols b 0 ≡ sync0 → s ≡ 5 → j ≡ 3 → ⊥ = λ e p q. not-sync0 b h (sym (symbol-word b h) ∙ e) in
+      agreeing (steps s bs) (ruled 0 s bs) (apart-only b s j low (ready-lt s t) l no) (ready-after b s j low (ready-lt s t) l no)
+
+  word-ok : (j : ℕ) → j < 4 → T (wordAgrees (bitsOf 14 (wordOf b)) s (getD forWord j []))
+  word-ok j l = subst (λ (w : ℕ). T (wordAgrees (bitsOf 14 w) s (getD forWord j []))) (symbol-word b h) (symbol-agrees j l)
 
   -- every word may come wherever a writer stands
   pub word-taken : T (takes (bitsOf 14 (wordOf b)) s)
-  unfolding takes wordAgrees goesOn again
+  unfolding takes somePass
   word-taken =
       let bs = bitsOf 14 (wordOf b) in
-      let A = again bs s m100 in
-      let B = again bs s m010 in
-      let C = again bs s m001 in
-      let D = again bs s m000 in
       let some = passes s bs m100 || (passes s bs m010 || (passes s bs m001 || passes s bs m000)) in
-      let on : T ((A && (B && (C && D))) && some)
-      = when (ready s) ((A && (B && (C && D))) && some) (below (goesOn bs) broken (below (λ b. allBelow (goesOn (bitsOf 14 (wordOf b))) broken) 256 all-go-on b h) s (ready-lt s t)) t in
-      let a = and-left (A && (B && (C && D))) some on in
-      let c = and-right A (B && (C && D)) a in
-      let d = and-right B (C && D) c in
-      let ok100 : T (wordAgrees bs s m100) = agreeing (steps s (m100 ++ bs)) (ruled 0 s (m100 ++ bs)) (word-rule 0 (omega arith)) (and-left A (B && (C && D)) a) in
-      let ok010 : T (wordAgrees bs s m010) = agreeing (steps s (m010 ++ bs)) (ruled 0 s (m010 ++ bs)) (word-rule 1 (omega arith)) (and-left B (C && D) c) in
-      let ok001 : T (wordAgrees bs s m001) = agreeing (steps s (m001 ++ bs)) (ruled 0 s (m001 ++ bs)) (word-rule 2 (omega arith)) (and-left C D d) in
-      let ok000 : T (wordAgrees bs s m000) = agreeing (steps s (m000 ++ bs)) (ruled 0 s (m000 ++ bs)) (word-rule 3 (omega arith)) (and-right C D d) in
-      and-both (ready s && (wordAgrees bs s m100 && (wordAgrees bs s m010 && (wordAgrees bs s m001 && wordAgrees bs s m000)))) some
-      (and-both (ready s) (wordAgrees bs s m100 && (wordAgrees bs s m010 && (wordAgrees bs s m001 && wordAgrees bs s m000))) t
-      (and-both (wordAgrees bs s m100) (wordAgrees bs s m010 && (wordAgrees bs s m001 && wordAgrees bs s m000)) ok100
-      (and-both (wordAgrees bs s m010) (wordAgrees bs s m001 && wordAgrees bs s m000) ok010 (and-both (wordAgrees bs s m001) (wordAgrees bs s m000) ok001 ok000))))
-      (and-right (A && (B && (C && D))) some on)
+      let A = wordAgrees bs s m100 in
+      let B = wordAgrees bs s m010 in
+      let C = wordAgrees bs s m001 in
+      let D = wordAgrees bs s m000 in
+      and-both (ready s && (A && (B && (C && D)))) some
+      (and-both (ready s) (A && (B && (C && D))) t
+      (and-both A (B && (C && D)) (word-ok 0 (omega arith)) (and-both B (C && D) (word-ok 1 (omega arith)) (and-both C D (word-ok 2 (omega arith)) (word-ok 3 (omega arith))))))
+      (when (ready s) some (below (somePass bs) broken (below (λ b. allBelow (somePass (bitsOf 14 (wordOf b))) broken) 256 all-some b h) s (ready-lt s t)) t)
 
 -- ---- SYNC 0 and SYNC 1 come after a Sync Header
 
