@@ -31,11 +31,12 @@ chosenWord t next = record { bits = number 0 (beforeNextWord t next ++ next); af
 unfoldable pub wordChoice : Trace → ℕ → Choice
 wordChoice t k = cond (fits t && ltb k 258) (chosenWord t (bitsAt k)) (record { bits = 0; after = t })
 
--- some symbols, one after the other: their bits, and the trace after them
+-- the bits of some symbols, one after the other
 unfoldable pub wordsChosen : Trace → List ℕ → List ℕ
 wordsChosen t [] = []
 wordsChosen t (k ∷ ks) = wordChoice t k .bits ∷ wordsChosen (wordChoice t k .after) ks
 
+-- the trace after some symbols
 unfoldable pub wordsTrace : Trace → List ℕ → Trace
 wordsTrace t [] = t
 wordsTrace t (k ∷ ks) = wordsTrace (wordChoice t k .after) ks
@@ -48,9 +49,11 @@ afterHeader t = record { run = headed; tally = cond (light t) (tallyAfter t head
 abbrev pub beforeNextHeader : Trace → List ℕ
 beforeNextHeader t = beforeHeader (passes (t .run) start22) (tallyDsv (t .tally) header)
 
+-- those as a number, and the tally after them
 unfoldable pub chosenTail : Trace → Tail
 chosenTail t = record { bits = number 0 (beforeNextHeader t); after = tallyAfter (t .tally) (beforeNextHeader t) }
 
+-- where the trace fits
 unfoldable pub tailChoice : Trace → Tail
 tailChoice t = cond (fits t) (chosenTail t) (record { bits = 0; after = t .tally })
 

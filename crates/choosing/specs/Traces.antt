@@ -36,11 +36,13 @@ light t = leb (t .level) 1 && (ltb (t .plus) (2 ^ 60) && ltb (t .minus) (2 ^ 60)
 unfoldable pub fits : Trace → Bool
 fits t = ltb (t .run) broken && light (t .tally)
 
+-- the first test, as a record
 pub record Light (t : Tally) : Type 0 where
   pub level-low : t .level ≤ 1
   pub plus-low : t .plus < 2 ^ 60
   pub minus-low : t .minus < 2 ^ 60
 
+-- and the second
 pub record Fit (t : Trace) : Type 0 where
   pub state : t .run < broken
   pub room : Light (t .tally)

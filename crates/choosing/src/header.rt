@@ -44,10 +44,10 @@ fn header_after_one(run: u8) -> u8
     ensures { λ r. ⌜ r ≡ headerAfterOne run ⌝ }
 {
     if run % 11 < 2 {
-        return 22;
+        return trace::BROKEN;
     }
     if run == 21 {
-        return 22;
+        return trace::BROKEN;
     }
     21
 }
@@ -58,7 +58,7 @@ fn header_after_zeros(run: u8) -> u8
     if run % 11 < 7 {
         return 21;
     }
-    22
+    trace::BROKEN
 }
 
 // The better of 100 and 000 before a Sync Header.

@@ -36,6 +36,7 @@ after w bs =
 abbrev pub dsvAfter : ℕ → ℕ → ℕ → List ℕ → List ℕ → ℕ
 dsvAfter level plus minus next m = absolute (plus + ups level (m ++ next)) (minus + downs level (m ++ next))
 
+-- the four Merging bits
 abbrev pub m100 : List ℕ
 m100 = 1 ∷ 0 ∷ 0 ∷ []
 
@@ -48,10 +49,11 @@ m001 = 0 ∷ 0 ∷ 1 ∷ []
 abbrev pub m000 : List ℕ
 m000 = 0 ∷ 0 ∷ 0 ∷ []
 
--- all that may stand before a word, and before a Sync Header, in document 01's order of preference
+-- all that may stand before a word, in document 01's order of preference
 abbrev pub forWord : List (List ℕ)
 forWord = m100 ∷ m010 ∷ m001 ∷ m000 ∷ []
 
+-- and before a Sync Header
 abbrev pub forHeader : List (List ℕ)
 forHeader = m100 ∷ m000 ∷ []
 

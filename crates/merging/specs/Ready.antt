@@ -37,9 +37,11 @@ takes bs s =
 
 -- ---- before a Sync Header: the automaton looks at its first 22 bits, since its 23rd is the ONE that makes it one
 
+-- the automaton and the rule agree on Merging bits m
 unfoldable pub headerAgrees : ℕ → List ℕ → Bool
 headerAgrees s m = cond (live (steps s (m ++ start22))) (ruled 1 s (m ++ header)) (not (ruled 1 s (m ++ header)))
 
+-- on both, and one of them passes
 unfoldable pub takesHeader : ℕ → Bool
 takesHeader s = (headerAgrees s m100 && headerAgrees s m000) && (live (steps s (m100 ++ start22)) || live (steps s (m000 ++ start22)))
 

@@ -7,10 +7,11 @@ use lib.IntN.{ℤ, pos, negsuc, subℕ, natAbs}
 use Rattle.choosing.specs.declared.Tally.{Tally}
 pub mod Range
 
--- a writer writes at most 450,000 Sections, of 57,624 Channel bits each
+-- a writer writes at most 450,000 Sections
 abbrev pub mostSections : ℕ
 mostSections = 450000
 
+-- of 57,624 Channel bits each
 abbrev pub sectionBits : ℕ
 sectionBits = 57624
 

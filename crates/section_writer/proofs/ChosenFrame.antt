@@ -45,7 +45,7 @@ module _ (past : List ℕ) (n : ℕ) (t : Tally) (opens : Opens past) (w : Withi
   unfolding withHeader ready
   header-leads =
       subst (λ (x : Trace). Leads past header (n + 24) x (after (noted past t) header)) (sym goes-over)
-      (record { stands = record { tied = opens; at-ease = tt; within = within-after w header }; is = refl })
+      (record { stands = record { in-state = opens; at-ease = tt; within = within-after w header }; is = refl })
 
 -- ---- the Merging bits before the next one
 
@@ -60,7 +60,7 @@ module _ (past : List ℕ) (n : ℕ) (t : Trace) (s : Stands past n t) (room : n
 
   tail-is : tailChoice t ≡ chosenTail t
   unfolding tailChoice
-  tail-is = let f : fits t ≡ true = fit-fits t (record { state = s .tied .state; room = within-light (s .within) room }) in rw f
+  tail-is = let f : fits t ≡ true = fit-fits t (record { state = s .in-state .state; room = within-light (s .within) room }) in rw f
 
   fine : T (live (steps (steps (t .run) m) start22))
   unfolding m
@@ -71,9 +71,9 @@ module _ (past : List ℕ) (n : ℕ) (t : Trace) (s : Stands past n t) (room : n
   ended =
       let d = tail-digits t in
       record {
-        opens = state-header (past ++ m) (steps (t .run) m) (state-more past (t .run) m (s .tied) (d .binary) (live-first (steps (t .run) m) start22 fine)) fine;
+        opens = state-header (past ++ m) (steps (t .run) m) (state-more past (t .run) m (s .in-state) (d .binary) (live-first (steps (t .run) m) start22 fine)) fine;
         within = subst (λ (x : ℕ). Within (n + x) (tallyAfter (t .tally) m)) (d .long) (within-after (s .within) m);
-        is = ap (after (noted past (t .tally))) (sym (header-agrees (t .run) (header-taken (t .run) (s .at-ease)) (tallyDsv (t .tally) header) past (s .tied)));
+        is = ap (after (noted past (t .tally))) (sym (header-agrees (t .run) (header-taken (t .run) (s .at-ease)) (tallyDsv (t .tally) header) past (s .in-state)));
       }
 
   -- they are written as the rule has it

@@ -31,7 +31,7 @@ use Rattle.section_writer.specs.Section.{withWords}
 
 -- where a writer stands between two words, after the bits `past`: the trace's state is theirs, and its counts are not above n
 pub record Stands (past : List ℕ) (n : ℕ) (t : Trace) : Type 0 where
-  pub tied : StateOf past (t .run)
+  pub in-state : StateOf past (t .run)
   pub at-ease : T (ready (t .run))
   pub within : Within n (t .tally)
 
@@ -48,7 +48,7 @@ module _ (past : List ℕ) (n : ℕ) (t : Trace) (k : ℕ) (s : Stands past n t)
   is-chosen : wordChoice t k ≡ chosenWord t (bitsAt k)
   unfolding wordChoice
   is-chosen =
-      let f : fits t ≡ true = fit-fits t (record { state = s .tied .state; room = within-light (s .within) room }) in
+      let f : fits t ≡ true = fit-fits t (record { state = s .in-state .state; room = within-light (s .within) room }) in
       rw (f, lt-ltb k 258 low)
 
   digits : bitsOf 17 (wordChoice t k .bits) ≡ m ++ bitsAt k
@@ -64,7 +64,7 @@ module _ (past : List ℕ) (n : ℕ) (t : Trace) (k : ℕ) (s : Stands past n t)
   stood =
       let d = word-digits t (getD symbols k 0) in
       record {
-        tied = state-more past (t .run) (m ++ bitsAt k) (s .tied) (d .binary) (word-passes (t .run) (bitsAt k) takes (tallyDsv (t .tally) (bitsAt k)));
+        in-state = state-more past (t .run) (m ++ bitsAt k) (s .in-state) (d .binary) (word-passes (t .run) (bitsAt k) takes (tallyDsv (t .tally) (bitsAt k)));
         at-ease = word-ready (t .run) (bitsAt k) takes (tallyDsv (t .tally) (bitsAt k));
         within = subst (λ (x : ℕ). Within (n + x) (traceAfter t (m ++ bitsAt k) .tally)) (d .long) (within-after (s .within) (m ++ bitsAt k));
       }
@@ -73,7 +73,7 @@ module _ (past : List ℕ) (n : ℕ) (t : Trace) (k : ℕ) (s : Stands past n t)
   unfolding m withWord
   meant =
       ap (λ (x : List ℕ). after (noted past (t .tally)) (x ++ bitsAt k))
-      (sym (word-agrees past (t .run) (s .tied) (bitsAt k) (omega (arith, length-bits 14 (getD symbols k 0))) takes (tallyDsv (t .tally) (bitsAt k))))
+      (sym (word-agrees past (t .run) (s .in-state) (bitsAt k) (omega (arith, length-bits 14 (getD symbols k 0))) takes (tallyDsv (t .tally) (bitsAt k))))
 
   -- a word is written as the rule has it
   pub word-leads : Leads past (bitsOf 17 (wordChoice t k .bits)) (n + 17) (wordChoice t k .after) (withWord (noted past (t .tally)) (bitsAt k))

@@ -17,7 +17,7 @@ pub mod Frame
 
 -- a Sync Header may follow
 pub record Opens (bits : List ℕ) : Type 0 where
-  pub tied : StateOf (bits ++ header) headed
+  pub in-state : StateOf (bits ++ header) headed
   pub placed-then : Placed (bits ++ header) headed 564
   pub runs-so-far : runs bits ≡ true
   pub placed-so-far : placed 0 bits ≡ true
@@ -30,7 +30,7 @@ pub record Opening (old : List ℕ) (w : SoFar) : Type 0 where
 -- in a frame, c bits before the next Sync Header's place
 pub record Running (old : List ℕ) (w : SoFar) (s c : ℕ) : Type 0 where
   pub own : StateOf (w .bits) s
-  pub tied : StateOf (old ++ w .bits) s
+  pub in-state : StateOf (old ++ w .bits) s
   pub places : Placed (old ++ w .bits) s c
   pub at-ease : T (ready s)
 

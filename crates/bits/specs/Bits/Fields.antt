@@ -23,7 +23,7 @@ joined a b c rest hb hc =
     ∙ sym (append-assoc (bitsOf 16 (a * 256 + b)) (bitsOf 8 c) rest)
     ∙ ap (λ (t : List ℕ). t ++ rest) (sym (bits-join 16 8 (a * 256 + b) c hc))
 
--- n bits of N after j of them
+-- n bits of v after j of them
 middle : (j n r v : ℕ) (rest : List ℕ) → number 0 (take n (drop j (bitsOf (j + (n + r)) v ++ rest))) ≡ v / 2 ^ r % 2 ^ n
 middle j n r v rest =
     let e : bitsOf (j + (n + r)) v ++ rest ≡ bitsOf j (v / 2 ^ (n + r)) ++ (bitsOf n (v / 2 ^ r) ++ (bitsOf r v ++ rest))
@@ -58,6 +58,7 @@ module _ (xs : List ℕ) (h : Bytes xs) (i : ℕ) (room : i + 2 < length xs) whe
       unpack-drop i xs ∙ ap unpack e
       ∙ joined (getD xs i 0) (getD xs (i + 1) 0) (getD xs (i + 2) 0) (unpack (drop (suc (i + 2)) xs)) (h (i + 1)) (h (i + 2))
 
+  -- n bits from bit 8 * i + j on lie in the three bytes from byte i on
   pub from-three : (j n : ℕ) → j + n ≤ 24 → number 0 (take n (drop (8 * i + j) (unpack xs))) ≡ threeBytes xs i / 2 ^ (24 - (j + n)) % 2 ^ n
   from-three j n r =
       let k : j + (n + (24 - (j + n))) ≡ 24 = omega arith in

@@ -10,17 +10,19 @@ use Rattle.merging.specs.Dsv.{ups, levelAfter}
 use Rattle.choosing.specs.declared.profile.Profile.{Profile}
 use Rattle.choosing.specs.Inner.States.{entered}
 
--- the ZEROs before the first ONE, and what comes after it
+-- the ZEROs before the first ONE
 abbrev pub leadOf : List ℕ → ℕ
 leadOf [] = 0
 leadOf (zero ∷ bs) = suc (leadOf bs)
 leadOf (suc b ∷ bs) = 0
 
+-- what comes after it
 abbrev pub restOf : List ℕ → List ℕ
 restOf [] = []
 restOf (zero ∷ bs) = restOf bs
 restOf (suc b ∷ bs) = bs
 
+-- the profile of a word
 abbrev pub profileOf : ℕ → Profile
 profileOf w =
     record {
@@ -43,6 +45,7 @@ pub record Profiled (w : ℕ) (p : Profile) : Type 0 where
   pub odd-small : p .odd ≤ 1
   pub ups-small : p .ups ≤ 14
 
+-- its row of eight bytes
 abbrev pub row : ℕ → List ℕ
 row w =
     leadOf (bitsOf 14 w) ∷ steps 0 (restOf (bitsOf 14 w)) ∷ steps 11 (restOf (bitsOf 14 w)) ∷ ups 1 (bitsOf 14 w) ∷ levelAfter 0 (bitsOf 14 w)

@@ -19,9 +19,10 @@ afterWord s p = cond (eqb s broken) broken (entered s (p .lead) (p .plain) (p .t
 abbrev pub afterZeros : ℕ → ℕ
 afterZeros s = cond (ltb (s % 11) 8) (s + 3) broken
 
--- before a Sync Header's 23rd bit, after 100 and after 000
+-- before a Sync Header's 23rd bit, after 100
 abbrev pub headerAfterOne : ℕ → ℕ
 headerAfterOne s = cond (ltb (s % 11) 2) broken (cond (eqb s 21) broken 21)
 
+-- and after 000
 abbrev pub headerAfterZeros : ℕ → ℕ
 headerAfterZeros s = cond (ltb (s % 11) 7) 21 broken

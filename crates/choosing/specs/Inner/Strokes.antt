@@ -5,6 +5,7 @@ use Prim.Native.Nat.{ℕ, _+_, _-_}
 use lib.Dec.{eqb}
 use Rattle.choosing.specs.declared.Tally.{Tally}
 
+-- the tally after them
 unfoldable pub spent : Tally → ℕ → ℕ → ℕ → Tally
 spent t same other odd =
     record {

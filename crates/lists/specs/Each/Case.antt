@@ -6,6 +6,7 @@ use Prim.Native.Nat.{ℕ, zero, suc, _<_}
 use native.Mathlib.Nat.{not-suc-le-zero, le-of-suc-le-suc, eq-or-lt-of-le}
 use Rattle.lists.specs.Each.{Each}
 
+-- P k, of all those below n
 pub case : (P : ℕ → Type 0) (n : ℕ) → Each P n → (k : ℕ) → k < n → P k
 case P zero e k h = absurd (not-suc-le-zero h)
 case P (suc n) e k h = go (eq-or-lt-of-le (le-of-suc-le-suc h)) (case P n (e .1) k)

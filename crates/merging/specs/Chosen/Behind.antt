@@ -27,10 +27,12 @@ unfolding withHeader
 begun-header w (inl e) = record { rest = []; begins = ap (λ (l : List ℕ). l ++ header) e ∙ sym (append-nil header) }
 begun-header w (inr b) = begun-after w header b
 
+-- a word
 pub begun-word : (w : SoFar) (next : List ℕ) → Begun w → Begun (withWord w next)
 unfolding withWord
 begun-word w next b = begun-after w (beforeWord (allowed (w .bits) next) (dsvAfter (w .level) (w .plus) (w .minus) next) ++ next) b
 
+-- or Merging bits
 pub begun-tail : (w : SoFar) → Begun w → Begun (withTail w)
 unfolding withTail
 begun-tail w b = begun-after w (beforeHeader (allowed (w .bits) header) (dsvAfter (w .level) (w .plus) (w .minus) header)) b

@@ -14,9 +14,8 @@ use Rattle.merging.specs.Ready.{ready, ruled, agrees, wordAgrees, takes,
 use Rattle.merging.specs.Rule.Headers.{headers-short, eqb-plus}
 use Rattle.merging.specs.Chosen.Better.{better-same, word-keeps, word-allowed, header-allowed, word-same}
 
--- ---- the rule after `past` is the rule after what its state shows
-
 module _ (past : List ℕ) (s : ℕ) (d : StateOf past s) where
+  -- the rule after `past` is the rule after what its state shows
   pub allowed-is : (n : ℕ) (next m : List ℕ) → headers next ≡ n → allowed past next m ≡ ruled n s (m ++ next)
   unfolding allowed ruled
   allowed-is n next m e =

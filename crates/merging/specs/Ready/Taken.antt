@@ -73,12 +73,12 @@ module _ (b s : ℕ) (h : b < 256) (t : T (ready s)) where
       (and-both A (B && (C && D)) (word-ok 0 (omega arith)) (and-both B (C && D) (word-ok 1 (omega arith)) (and-both C D (word-ok 2 (omega arith)) (word-ok 3 (omega arith))))))
       (when (ready s) some (below (somePass bs) broken (below (λ b. allBelow (somePass (bitsOf 14 (wordOf b))) broken) 256 all-some b h) s (ready-lt s t)) t)
 
--- ---- SYNC 0 and SYNC 1 come after a Sync Header
-
+-- SYNC 0 may come after a Sync Header
 pub sync0-taken : T (takes (bitsOf 14 sync0) headed)
 unfolding takes wordAgrees ruled agrees ready step headers
 sync0-taken = tt
 
+-- and so may SYNC 1
 pub sync1-taken : T (takes (bitsOf 14 sync1) headed)
 unfolding takes wordAgrees ruled agrees ready step headers
 sync1-taken = tt

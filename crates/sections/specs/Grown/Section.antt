@@ -13,6 +13,7 @@ use Rattle.merging.specs.Chosen.{SoFar, after, dsvAfter, beforeWord, beforeHead
 use Rattle.merging.specs.Dsv.{levelAfter, ups, downs}
 use Rattle.merging.specs.Rule.{header, allowed}
 use Rattle.merging.specs.Dsv.Levels.{level-append, ups-append, downs-append}
+use Rattle.section_state.specs.Carried.{sectionBits}
 use Rattle.section_writer.specs.declared.SectionWriter.{SectionWriter}
 use Rattle.section_writer.specs.Section.{wordAt, frameWords, withWords, withFrame, withFrames, sectionAfter}
 use Rattle.section_writer.specs.WriteSay.{section}
@@ -98,6 +99,6 @@ grown-frames (suc n) w frames control f =
     (grown-then (grown-frame w frames control f) (grown-frames n (withFrame w (frameWords frames control f)) frames control (suc f)))
 
 -- A SECTION has 57,624 bits
-pub grown-section : (s : SectionWriter) (frames control : List ℕ) → Grown 57624 (atStart [] s) (section s frames control)
+pub grown-section : (s : SectionWriter) (frames control : List ℕ) → Grown sectionBits (atStart [] s) (section s frames control)
 unfolding section sectionAfter
 grown-section s frames control = grown-frames 98 (atStart [] s) frames control 0

@@ -16,7 +16,7 @@ use Rattle.merging.specs.Dsv.{ups, downs}
 use Rattle.merging.specs.Dsv.Levels.{ups-downs}
 use Rattle.section_writer.specs.declared.SectionWriter.{SectionWriter}
 use Rattle.section_writer.specs.State.{fresh, right}
-use Rattle.section_state.specs.Carried.{levelRight, above, below, levelNow, levelThen}
+use Rattle.section_state.specs.Carried.{levelRight, above, below, levelNow, levelThen, mostSections, sectionBits}
 use Rattle.section_writer.specs.WriteSay.{section, afterSection}
 use Rattle.sections.specs.Stream.{atStart}
 use Rattle.sections.specs.Grown.Section.{grown-section}
@@ -49,7 +49,7 @@ three-true : (a b c : Bool) → a ≡ true → b ≡ true → c ≡ true → (a 
 three-true a b c p q r = rw (p, q, r)
 
 -- THE STATE AFTER A WRITE passes its own test
-pub state-stays-right : (s : SectionWriter) (frames control : List ℕ) → right s ≡ true → s .sections < 450000 → right (afterSection s (section s frames control)) ≡ true
+pub state-stays-right : (s : SectionWriter) (frames control : List ℕ) → right s ≡ true → s .sections < mostSections → right (afterSection s (section s frames control)) ≡ true
 unfolding right afterSection
 state-stays-right s frames control r h =
     let w = atStart [] s in
@@ -57,15 +57,15 @@ state-stays-right s frames control r h =
     let w′ = section s frames control in
     let u = ups (w .level) (g .bits) in
     let d = downs (w .level) (g .bits) in
-    let total : u + d ≡ 57624 = ups-downs (w .level) (g .bits) (level-low (s .level)) ∙ g .long in
+    let total : u + d ≡ sectionBits = ups-downs (w .level) (g .bits) (level-low (s .level)) ∙ g .long in
     let t = of-true (right s) r in
-    let dsv : natAbs (s .dsv) ≤ 57624 * s .sections = leb→le (natAbs (s .dsv)) (57624 * s .sections) (and-right (leb (s .sections) 450000) (leb (natAbs (s .dsv)) (57624 * s .sections)) (and-right (levelRight (s .level)) _ t)) in
+    let dsv : natAbs (s .dsv) ≤ sectionBits * s .sections = leb→le (natAbs (s .dsv)) (sectionBits * s .sections) (and-right (leb (s .sections) mostSections) (leb (natAbs (s .dsv)) (sectionBits * s .sections)) (and-right (levelRight (s .level)) _ t)) in
     let p : w′ .plus ≡ w .plus + u = ap (λ (x : SoFar). x .plus) (g .is) in
     let m : w′ .minus ≡ w .minus + d = ap (λ (x : SoFar). x .minus) (g .is) in
-    let n : natAbs (subℕ (w′ .plus) (w′ .minus)) ≤ 57624 * (s .sections + 1)
-    = rw (abs-sub (w′ .plus) (w′ .minus), p, m) (omega (arith, near (above (s .dsv)) (below (s .dsv)) u d 57624 (57624 * s .sections) total (omega (arith, abs-split (s .dsv))))) in
-    three-true (levelRight (levelThen (w′ .level))) (leb (s .sections + 1) 450000) (leb (natAbs (subℕ (w′ .plus) (w′ .minus))) (57624 * (s .sections + 1)))
-    (level-right (w′ .level)) (le-leb (s .sections + 1) 450000 (omega arith)) (le-leb (natAbs (subℕ (w′ .plus) (w′ .minus))) (57624 * (s .sections + 1)) n)
+    let n : natAbs (subℕ (w′ .plus) (w′ .minus)) ≤ sectionBits * (s .sections + 1)
+    = rw (abs-sub (w′ .plus) (w′ .minus), p, m) (omega (arith, near (above (s .dsv)) (below (s .dsv)) u d sectionBits (sectionBits * s .sections) total (omega (arith, abs-split (s .dsv))))) in
+    three-true (levelRight (levelThen (w′ .level))) (leb (s .sections + 1) mostSections) (leb (natAbs (subℕ (w′ .plus) (w′ .minus))) (sectionBits * (s .sections + 1)))
+    (level-right (w′ .level)) (le-leb (s .sections + 1) mostSections (omega arith)) (le-leb (natAbs (subℕ (w′ .plus) (w′ .minus))) (sectionBits * (s .sections + 1)) n)
 
 -- a fresh writer's state passes it too
 pub fresh-right : right fresh ≡ true

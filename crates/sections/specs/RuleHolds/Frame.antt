@@ -24,7 +24,7 @@ use Rattle.merging.specs.Automaton.Steps.{steps-append, live-first}
 use Rattle.section_writer.specs.Section.{wordAt, frameWords, withWords, withFrame, withFrames}
 use Rattle.merging.specs.Chosen.ThreeBits.{header-three, header-binary}
 use Rattle.sections.specs.RuleHolds.{Opening, Running, Ran}
-use Rattle.sections.specs.RuleHolds.Word.{run-word, word-takes, more-own, more-tied, more-placed}
+use Rattle.sections.specs.RuleHolds.Word.{run-word, word-takes, more-own, more-state, more-placed}
 
 module _ (frames control : List ℕ) (hf : Bytes frames) (hc : Bytes control) where
   -- some words of a frame
@@ -44,7 +44,7 @@ module _ (frames control : List ℕ) (hf : Bytes frames) (hc : Bytes control) wh
   run-header old w o =
       record {
         own = o .own;
-        tied = subst (λ (l : List ℕ). StateOf l headed) (append-assoc old (w .bits) header) (o .all .tied);
+        in-state = subst (λ (l : List ℕ). StateOf l headed) (append-assoc old (w .bits) header) (o .all .in-state);
         places = subst (λ (l : List ℕ). Placed l headed 564) (append-assoc old (w .bits) header) (o .all .placed-then);
         at-ease = tt;
       }
@@ -60,14 +60,14 @@ module _ (frames control : List ℕ) (hf : Bytes frames) (hc : Bytes control) wh
       let u = live-first (steps s m) start22 t in
       let b : Binary m = header-binary (passes s start22) dsv in
       let l : 3 ≡ length m + 0 = omega (arith, header-three (passes s start22) dsv) in
-      let d = more-tied old w s 3 r m b u in
+      let d = more-state old w s 3 r m b u in
       let p = more-placed old w s 3 r m 0 l b u in
       subst (λ (n : List ℕ). Opening old (after w n)) (sym e)
       (record {
         own = state-header (w .bits ++ m) (steps s m) (more-own old w s 3 r m b u) t;
         all =
             record {
-              tied = state-header (old ++ (w .bits ++ m)) (steps s m) d t;
+              in-state = state-header (old ++ (w .bits ++ m)) (steps s m) d t;
               placed-then = placed-header (old ++ (w .bits ++ m)) (steps s m) p t;
               runs-so-far = ap runs (sym (append-nil (old ++ (w .bits ++ m)))) ∙ d .runs-on [];
               placed-so-far = placed-whole (old ++ (w .bits ++ m)) (steps s m) p;

@@ -31,13 +31,15 @@ earlier-plus zero c = omega arith
 earlier-plus (suc n) c = omega (arith, earlier-plus n c)
 
 module _ (old : List ℕ) (w : SoFar) (s c : ℕ) (r : Running old w s c) where
-  -- some bits on
+  -- some bits on in the Section
   pub more-own : (bs : List ℕ) → Binary bs → T (live (steps s bs)) → StateOf (w .bits ++ bs) (steps s bs)
   more-own bs b t = state-more (w .bits) s bs (r .own) b t
 
-  pub more-tied : (bs : List ℕ) → Binary bs → T (live (steps s bs)) → StateOf (old ++ (w .bits ++ bs)) (steps s bs)
-  more-tied bs b t = subst (λ (l : List ℕ). StateOf l (steps s bs)) (append-assoc old (w .bits) bs) (state-more (old ++ w .bits) s bs (r .tied) b t)
+  -- after all that was written before it
+  pub more-state : (bs : List ℕ) → Binary bs → T (live (steps s bs)) → StateOf (old ++ (w .bits ++ bs)) (steps s bs)
+  more-state bs b t = subst (λ (l : List ℕ). StateOf l (steps s bs)) (append-assoc old (w .bits) bs) (state-more (old ++ w .bits) s bs (r .in-state) b t)
 
+  -- and the next Sync Header is so much nearer
   pub more-placed : (bs : List ℕ) (d : ℕ) → c ≡ length bs + d → Binary bs → T (live (steps s bs)) → Placed (old ++ (w .bits ++ bs)) (steps s bs) d
   more-placed bs d e b t =
       subst (λ (l : List ℕ). Placed l (steps s bs) d) (append-assoc old (w .bits) bs)
@@ -60,7 +62,7 @@ run-word old w s c x r k =
       runs-on =
           record {
             own = more-own old w s (17 + c) r (m ++ bs) b t;
-            tied = more-tied old w s (17 + c) r (m ++ bs) b t;
+            in-state = more-state old w s (17 + c) r (m ++ bs) b t;
             places = more-placed old w s (17 + c) r (m ++ bs) c l b t;
             at-ease = word-ready s bs k dsv;
           };

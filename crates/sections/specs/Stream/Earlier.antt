@@ -60,7 +60,7 @@ unfolding streamOf streamAmong afterSection
 sections-behind [] old s o = sym (append-nil old)
 sections-behind (p ∷ ps) old s o =
     let w = section s (p .frames) (p .control) in
-    ap (λ (v : SoFar). streamAmong (v .bits) (afterSection s v) ps) (section-behind old (o .tied) s p)
+    ap (λ (v : SoFar). streamAmong (v .bits) (afterSection s v) ps) (section-behind old (o .in-state) s p)
     ∙ sections-behind ps (old ++ w .bits) (afterSection s w) (one-section old s p o)
     ∙ append-assoc old (w .bits) (streamOf (afterSection s w) ps)
 

@@ -26,7 +26,7 @@ use Rattle.sections.specs.Stream.{Part, streamOf, atStart}
 -- before anything is written a Sync Header may come
 pub opens-none : Opens []
 unfolding placed
-opens-none = record { tied = state-first; placed-then = placed-first; runs-so-far = refl; placed-so-far = refl }
+opens-none = record { in-state = state-first; placed-then = placed-first; runs-so-far = refl; placed-so-far = refl }
 
 -- and after each Section
 pub one-section : (old : List ℕ) (s : SectionWriter) (p : Part) → Opens old → Opens (old ++ section s (p .frames) (p .control) .bits)

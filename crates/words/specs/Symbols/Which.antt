@@ -19,11 +19,12 @@ pub symbol-word : (b : ℕ) → b < 256 → getD symbols b 0 ≡ wordOf b
 unfolding symbols
 symbol-word b h = List·getD-append words (sync0 ∷ sync1 ∷ []) 0 b (rw how-many h)
 
--- and 256 and 257 for the SYNCs
+-- 256 stands for SYNC 0
 pub symbol-256 : getD symbols 256 0 ≡ sync0
 unfolding symbols words
 symbol-256 = refl
 
+-- and 257 for SYNC 1
 pub symbol-257 : getD symbols 257 0 ≡ sync1
 unfolding symbols words
 symbol-257 = refl

@@ -41,9 +41,10 @@ pub no-word : (w : ℕ) → ((b : ℕ) → b < 256 → wordOf b ≡ w → ⊥) �
 unfolding byteOf
 no-word w h = ap symbolAt (nowhere w words (λ k l. h k (rw how-many at l)) ∙ how-many)
 
--- so neither SYNC is read as a byte
+-- so SYNC 0 is not read as a byte
 pub sync0-unknown : byteOf sync0 ≡ Unknown
 sync0-unknown = no-word sync0 not-sync0
 
+-- and neither is SYNC 1
 pub sync1-unknown : byteOf sync1 ≡ Unknown
 sync1-unknown = no-word sync1 not-sync1

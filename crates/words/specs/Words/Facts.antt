@@ -37,10 +37,11 @@ none-sync1 : T (allBelow (λ b. not (eqb (wordOf b) sync1)) 256)
 unfolding words
 none-sync1 = tt
 
--- SYNC 0 is not, and neither is SYNC 1
+-- SYNC 0 is not
 pub not-sync0 : (b : ℕ) → b < 256 → wordOf b ≡ sync0 → ⊥
 not-sync0 b h = ne (wordOf b) sync0 (below (λ b. not (eqb (wordOf b) sync0)) 256 none-sync0 b h)
 
+-- and SYNC 1 is not
 pub not-sync1 : (b : ℕ) → b < 256 → wordOf b ≡ sync1 → ⊥
 not-sync1 b h = ne (wordOf b) sync1 (below (λ b. not (eqb (wordOf b) sync1)) 256 none-sync1 b h)
 
