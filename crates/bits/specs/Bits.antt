@@ -3,6 +3,9 @@
 use mathlib.Core.List.{List, [], _∷_, _++_}
 use Prim.Native.Nat.{ℕ, zero, suc, _+_, _*_, _/_, _%_, _^_}
 use lib.ListN.{take, drop}
+pub mod Numbers
+pub mod Packed
+pub mod Fields
 
 -- the n lowest bits of v
 abbrev pub bitsOf : ℕ → ℕ → List ℕ

@@ -1,16 +1,15 @@
 -- The better of two choices stands for the better of their Merging bits.
 -- Assumes nothing.
-use mathlib.Core.Path.{_≡_, refl, subst}
+use mathlib.Core.Path.{_≡_, subst}
 use mathlib.Core.Bool.{Bool, true, false, cond, not}
 use mathlib.Core.List.{List, _++_}
 use Prim.Native.Nat.{ℕ}
 use lib.Dec.{eqb, ltb}
-use Rattle.merging.specs.Agree.{passes}
-use Rattle.merging.specs.Automaton.{steps}
+use Rattle.merging.specs.Automaton.{broken, passes, steps}
 use Rattle.merging.specs.Chosen.{better}
 use Rattle.merging.specs.Dsv.{absolute}
 use Rattle.choosing.specs.declared.trace.Choice.{Choice}
-use Rattle.choosing.specs.Candidates.{betterOf}
+use Rattle.choosing.specs.Inner.Candidates.{betterOf}
 
 -- P is what it means to stand for Merging bits; `run` and `dsv` are what the automaton and the levels make of them
 module _ (P : Choice → List ℕ → Type 0) (s : ℕ) (look : List ℕ) (dsv : List ℕ → ℕ) (c d : Choice) (m n : List ℕ) (p : P c m) (q : P d n)
@@ -26,7 +25,7 @@ module _ (P : Choice → List ℕ → Type 0) (s : ℕ) (look : List ℕ) (dsv :
   pub better-stands : P (betterOf c d) (better (passes s look) dsv m n)
   unfolding betterOf
   better-stands =
-      let shape : cond (eqb (steps s (n ++ look)) 22) c (cond (eqb (steps s (m ++ look)) 22) d (cond (ltb (dsv n) (dsv m)) d c)) ≡ betterOf c d
+      let shape : cond (eqb (steps s (n ++ look)) broken) c (cond (eqb (steps s (m ++ look)) broken) d (cond (ltb (dsv n) (dsv m)) d c)) ≡ betterOf c d
       = rw (cr, dr, cd, dd) in
       subst (λ (z : Choice). P z (better (passes s look) dsv m n)) shape
-      (by-tests (eqb (steps s (m ++ look)) 22) (eqb (steps s (n ++ look)) 22) (ltb (dsv n) (dsv m)))
+      (by-tests (eqb (steps s (m ++ look)) broken) (eqb (steps s (n ++ look)) broken) (ltb (dsv n) (dsv m)))

@@ -1,15 +1,15 @@
 -- What the two ways to merge before a Sync Header come to, the better one, and the tally after it.
 -- Assumes nothing.
-use mathlib.Core.Path.{_≡_, refl, sym, ap, _∙_, subst}
+use mathlib.Core.Path.{_≡_, refl, sym, ap, _∙_}
 use mathlib.Core.Bool.{Bool, cond}
 use mathlib.Core.List.{List, _++_}
 use Prim.Native.Nat.{ℕ, _≤_}
 use native.Mathlib.Nat.{mod-eq-of-lt}
 use native.Mathlib.Omega.{arith}
 use lib.Dec.{eqb}
-use Rattle.bits.specs.Bits.{bitsOf, number}
-use Rattle.bits.specs.Numbers.{number-bits}
-use Rattle.merging.specs.Agree.{better-keeps}
+use Rattle.bits.specs.Bits.{number}
+use Rattle.bits.specs.Bits.Numbers.{number-bits}
+use Rattle.merging.specs.Chosen.Better.{better-keeps}
 use Rattle.merging.specs.Automaton.{start22}
 use Rattle.merging.specs.Chosen.{beforeHeader, m100, m000}
 use Rattle.merging.specs.Dsv.{absolute}
@@ -18,10 +18,10 @@ use Rattle.choosing.specs.declared.Tally.{Tally}
 use Rattle.choosing.specs.declared.header.Tail.{Tail}
 use Rattle.choosing.specs.declared.trace.Choice.{Choice}
 use Rattle.choosing.specs.declared.trace.Trace.{Trace}
-use Rattle.choosing.specs.Candidates.{HeaderStands, betterOf}
-use Rattle.choosing.specs.Choices.{beforeNextHeader, chosenTail, headed, afterHeader}
-use Rattle.choosing.specs.States.{headerAfterOne, headerAfterZeros}
-use Rattle.choosing.specs.Strokes.{spent}
+use Rattle.choosing.specs.Inner.Candidates.{HeaderStands, betterOf}
+use Rattle.choosing.specs.Choices.{beforeNextHeader, chosenTail}
+use Rattle.choosing.specs.Inner.States.{headerAfterOne, headerAfterZeros}
+use Rattle.choosing.specs.Inner.Strokes.{spent}
 use Rattle.choosing.specs.Traces.{tallyAfter, tallyDsv, Fit}
 use Rattle.choosing.proofs.BetterOf.{better-stands}
 use Rattle.choosing.proofs.RightStates.{header-one, header-zeros}

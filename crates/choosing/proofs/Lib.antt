@@ -1,4 +1,5 @@
 pub mod RightProfiles
+pub mod ProfilesHold
 pub mod RightStates
 pub mod RightStrokes
 pub mod BetterOf

@@ -1,26 +1,17 @@
--- The rows hold the profiles of all symbols, and these are right: one computed test over the 258.
+-- The rows hold the profiles of all symbols.
 -- Assumes nothing.
-use mathlib.Core.Path.{_≡_, refl, sym, ap, ap₂, _∙_, subst}
-use mathlib.Core.Bool.{Bool, _&&_}
+use mathlib.Core.Path.{_≡_, sym, ap, ap₂, _∙_}
 use mathlib.Core.List.{List, [], _∷_, _++_}
 use Prim.Native.Nat.{ℕ, zero, suc, _+_, _*_, _/_, _%_, _<_}
 use native.Mathlib.Nat.{add-zero, not-suc-le-zero, le-of-suc-le-suc}
 use native.Mathlib.Omega.{arith}
-use lib.Dec.{T, eqb, ltb, leb, eqb→eq, ltb→lt, leb→le}
 use lib.ListN.{length, getD, List·getD-append}
 use lib.Seq.{getD-append-add}
-use Rattle.outcome.specs.Table.{allBelow}
-use Rattle.outcome.specs.Table.Entries.{below, and-left, and-right}
 use Rattle.bits.specs.Bits.{bitsOf}
-use Rattle.words.specs.Words.{words}
-use Rattle.words.specs.Every.{every, each}
-use Rattle.merging.specs.Automaton.{step, steps}
-use Rattle.merging.specs.Dsv.{ups, levelAfter}
 use Rattle.choosing.specs.declared.profile.Profile.{Profile}
-use Rattle.choosing.specs.Profiles.{leadOf, restOf, profileOf, Profiled, row, rows}
-use Rattle.choosing.specs.States.{entered}
-use Rattle.choosing.specs.Symbols.{symbols}
-use Rattle.choosing.specs.Symbols.Which.{how-many-symbols}
+use Rattle.choosing.specs.Inner.Profiles.{leadOf, profileOf, row, rows}
+use Rattle.words.specs.Symbols.{symbols}
+use Rattle.words.specs.Symbols.Which.{how-many-symbols}
 
 row-at : (ws : List ℕ) (k j : ℕ) → k < length ws → j < 8 → getD (rows ws) (8 * k + j) 0 ≡ getD (row (getD ws k 0)) j 0
 unfolding rows
@@ -64,47 +55,3 @@ row-profile table k u w e h p q =
       ups = (p ∙ f 3 (omega arith)) i;
       word = (q ∙ ap₂ (λ (a b : ℕ). a * 256 + b) (f 5 (omega arith)) (f 6 (omega arith)) ∙ d) i;
     }
-
--- ---- each profile is right
-
-right : ℕ → Bool
-right w =
-    allBelow (λ s. eqb (steps s (bitsOf 14 w)) (entered s (leadOf (bitsOf 14 w)) (steps 0 (restOf (bitsOf 14 w))) (steps 11 (restOf (bitsOf 14 w))))) 22
-    && ((ltb w 16384 && leb (leadOf (bitsOf 14 w)) 10)
-    && ((leb (steps 0 (restOf (bitsOf 14 w))) 22 && leb (steps 11 (restOf (bitsOf 14 w))) 22)
-    && (leb (levelAfter 0 (bitsOf 14 w)) 1 && leb (ups 1 (bitsOf 14 w)) 14)))
-
-all-right : T (every (λ k w. right w) 0 symbols)
-unfolding right symbols words entered step
-all-right = tt
-
-profiled : (w : ℕ) → T (right w) → Profiled w (profileOf w)
-unfolding right
-profiled w t =
-    let p = profileOf w in
-    let A = allBelow (λ s. eqb (steps s (bitsOf 14 w)) (entered s (p .lead) (p .plain) (p .ten))) 22 in
-    let B = ltb w 16384 && leb (p .lead) 10 in
-    let C = leb (p .plain) 22 && leb (p .ten) 22 in
-    let D = leb (p .odd) 1 && leb (p .ups) 14 in
-    let b = and-left B (C && D) (and-right A (B && (C && D)) t) in
-    let c = and-left C D (and-right B (C && D) (and-right A (B && (C && D)) t)) in
-    let d = and-right C D (and-right B (C && D) (and-right A (B && (C && D)) t)) in
-    record {
-      is = refl;
-      leads = λ s h.
-          eqb→eq (steps s (bitsOf 14 w)) (entered s (p .lead) (p .plain) (p .ten))
-          (below (λ s. eqb (steps s (bitsOf 14 w)) (entered s (p .lead) (p .plain) (p .ten))) 22 (and-left A (B && (C && D)) t) s h);
-      word-small = ltb→lt w 16384 (and-left (ltb w 16384) (leb (p .lead) 10) b);
-      lead-small = leb→le (p .lead) 10 (and-right (ltb w 16384) (leb (p .lead) 10) b);
-      plain-small = leb→le (p .plain) 22 (and-left (leb (p .plain) 22) (leb (p .ten) 22) c);
-      ten-small = leb→le (p .ten) 22 (and-right (leb (p .plain) 22) (leb (p .ten) 22) c);
-      odd-small = leb→le (p .odd) 1 (and-left (leb (p .odd) 1) (leb (p .ups) 14) d);
-      ups-small = leb→le (p .ups) 14 (and-right (leb (p .odd) 1) (leb (p .ups) 14) d);
-    }
-
-pub symbol-profiled : (k : ℕ) → k < 258 → Profiled (getD symbols k 0) (profileOf (getD symbols k 0))
-symbol-profiled k h = profiled (getD symbols k 0) (each (λ k w. right w) symbols all-right k (rw how-many-symbols h))
-
--- the profile of a symbol is one that the choice can go by
-pub profile-fits : (k : ℕ) (p : Profile) → k < 258 → p ≡ profileOf (getD symbols k 0) → Profiled (p .word) p
-profile-fits k p h e = subst (λ (q : Profile). Profiled (q .word) q) (sym e) (symbol-profiled k h)

@@ -7,9 +7,9 @@ use Prim.Native.Nat.{ℕ, zero, suc, _+_, _-_, _≤_}
 use native.Mathlib.Omega.{arith}
 use lib.Dec.{eqb}
 use Rattle.merging.specs.Dsv.{levelAfter, ups, downs}
-use Rattle.merging.specs.Levels.{mirror, level-le}
+use Rattle.merging.specs.Dsv.Levels.{mirror, level-le}
 use Rattle.choosing.specs.declared.Tally.{Tally}
-use Rattle.choosing.specs.Strokes.{spent}
+use Rattle.choosing.specs.Inner.Strokes.{spent}
 use Rattle.choosing.specs.Traces.{tallyAfter}
 
 odd-up : (o : ℕ) → o ≤ 1 → cond (eqb o 0) 0 (1 - 0) ≡ o

@@ -9,24 +9,23 @@ use native.Mathlib.Omega.{arith}
 use borrow.Author.Tests.{eqb-true, eqb-false}
 use lib.Dec.{eqb}
 use Rattle.bits.specs.Bits.{bitsOf, number}
-use Rattle.bits.specs.Numbers.{length-bits, bits-join, number-bits}
-use Rattle.merging.specs.Agree.{passes}
-use Rattle.merging.specs.Automaton.{step, steps}
+use Rattle.bits.specs.Bits.Numbers.{length-bits, bits-join, number-bits}
+use Rattle.merging.specs.Automaton.{broken, passes, step, steps}
 use Rattle.merging.specs.Chosen.{better, beforeWord, m100, m010, m001, m000}
 use Rattle.merging.specs.Dsv.{levelAfter, ups, downs, absolute}
-use Rattle.merging.specs.Ties.{steps-append, steps-broken}
-use Rattle.merging.specs.Levels.{mirror, ups-downs}
+use Rattle.merging.specs.Automaton.Steps.{steps-append, steps-broken, step-low}
+use Rattle.merging.specs.Dsv.Levels.{mirror, ups-downs}
 use Rattle.choosing.specs.declared.profile.Profile.{Profile}
 use Rattle.choosing.specs.declared.trace.Choice.{Choice}
 use Rattle.choosing.specs.declared.trace.Trace.{Trace}
-use Rattle.choosing.specs.Candidates.{oneAfter, WordStands, betterOf}
+use Rattle.choosing.specs.Inner.Candidates.{oneAfter, WordStands, betterOf}
 use Rattle.choosing.specs.Choices.{beforeNextWord, chosenWord}
-use Rattle.choosing.specs.Profiles.{Profiled}
-use Rattle.choosing.specs.States.{entered, afterWord, afterZeros}
-use Rattle.choosing.specs.Strokes.{spent}
-use Rattle.choosing.specs.Traces.{traceAfter, tallyDsv, Fit}
+use Rattle.choosing.specs.Inner.Profiles.{Profiled}
+use Rattle.choosing.specs.Inner.States.{entered, afterWord, afterZeros}
+use Rattle.choosing.specs.Inner.Strokes.{spent}
+use Rattle.choosing.specs.Traces.{tallyDsv, Fit}
 use Rattle.choosing.proofs.BetterOf.{better-stands}
-use Rattle.choosing.proofs.RightStates.{ones-enter, zeros-enter, step-low, three-low}
+use Rattle.choosing.proofs.RightStates.{ones-enter, zeros-enter, one-low}
 use Rattle.choosing.proofs.RightStrokes.{spent-is}
 
 -- sums of the bits of a level
@@ -60,12 +59,12 @@ less : (u d x : ℕ) → u + d ≡ 14 → u ≡ x → d ≡ 14 - x
 less u d x e f = omega arith
 
 module _ (p : Profile) (ok : Profiled (p .word) p) where
-  word-run : (s e : ℕ) (m : List ℕ) → e ≡ steps s m → e ≤ 22 → afterWord e p ≡ steps s (m ++ bitsOf 14 (p .word))
-  word-run s e m q h = go (eqb e 22) refl ∙ ap (λ (x : ℕ). steps x (bitsOf 14 (p .word))) q ∙ sym (steps-append s m (bitsOf 14 (p .word)))
+  word-run : (s e : ℕ) (m : List ℕ) → e ≡ steps s m → e ≤ broken → afterWord e p ≡ steps s (m ++ bitsOf 14 (p .word))
+  word-run s e m q h = go (eqb e broken) refl ∙ ap (λ (x : ℕ). steps x (bitsOf 14 (p .word))) q ∙ sym (steps-append s m (bitsOf 14 (p .word)))
     where
-      go : (t : Bool) → eqb e 22 ≡ t → cond t 22 (entered e (p .lead) (p .plain) (p .ten)) ≡ steps e (bitsOf 14 (p .word))
-      go true x = sym (steps-broken (bitsOf 14 (p .word))) ∙ ap (λ (n : ℕ). steps n (bitsOf 14 (p .word))) (sym (eqb-true e 22 x))
-      go false x = let ne : e ≡ 22 → ⊥ = eqb-false e 22 x in sym (ok .leads e (omega arith))
+      go : (t : Bool) → eqb e broken ≡ t → cond t broken (entered e (p .lead) (p .plain) (p .ten)) ≡ steps e (bitsOf 14 (p .word))
+      go true x = sym (steps-broken (bitsOf 14 (p .word))) ∙ ap (λ (n : ℕ). steps n (bitsOf 14 (p .word))) (sym (eqb-true e broken x))
+      go false x = let ne : e ≡ broken → ⊥ = eqb-false e broken x in sym (ok .leads e (omega arith))
 
   -- the levels of a word
   word-ups : ups 1 (bitsOf 14 (p .word)) ≡ p .ups
@@ -117,7 +116,7 @@ module _ (p : Profile) (ok : Profiled (p .word) p) where
           small = omega arith;
           after-is = λ i.
               record {
-                run = word-run (t .run) _ (oneAfter n) enter (rw enter (three-low n (t .run))) i;
+                run = word-run (t .run) _ (oneAfter n) enter (rw enter (one-low n (t .run))) i;
                 tally = spent-is (t .tally) (oneAfter n ++ bitsOf 14 (p .word)) _ _ _ (fit .room .level-low) (one-ups n h) (one-downs n h) (one-odd n h) i;
               };
         }

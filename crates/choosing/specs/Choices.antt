@@ -6,8 +6,7 @@ use mathlib.Core.List.{List, [], _∷_, _++_}
 use Prim.Native.Nat.{ℕ}
 use lib.Dec.{ltb}
 use Rattle.bits.specs.Bits.{number}
-use Rattle.merging.specs.Agree.{passes}
-use Rattle.merging.specs.Automaton.{start22}
+use Rattle.merging.specs.Automaton.{passes, start22, headed}
 use Rattle.merging.specs.Chosen.{beforeWord, beforeHeader}
 use Rattle.merging.specs.Rule.{header}
 use Rattle.choosing.specs.declared.FrameChoice.{FrameChoice}
@@ -15,7 +14,7 @@ use Rattle.choosing.specs.declared.Tally.{Tally}
 use Rattle.choosing.specs.declared.header.Tail.{Tail}
 use Rattle.choosing.specs.declared.trace.Choice.{Choice}
 use Rattle.choosing.specs.declared.trace.Trace.{Trace}
-use Rattle.choosing.specs.Symbols.{bitsAt}
+use Rattle.words.specs.Symbols.{bitsAt}
 use Rattle.choosing.specs.Traces.{tallyAfter, traceAfter, tallyDsv, light, fits}
 pub mod Rows
 pub mod Digits
@@ -32,18 +31,15 @@ chosenWord t next = record { bits = number 0 (beforeNextWord t next ++ next); af
 unfoldable pub wordChoice : Trace → ℕ → Choice
 wordChoice t k = cond (fits t && ltb k 258) (chosenWord t (bitsAt k)) (record { bits = 0; after = t })
 
--- some symbols, one after the other: their bits, and the trace after them
+-- the bits of some symbols, one after the other
 unfoldable pub wordsChosen : Trace → List ℕ → List ℕ
 wordsChosen t [] = []
 wordsChosen t (k ∷ ks) = wordChoice t k .bits ∷ wordsChosen (wordChoice t k .after) ks
 
+-- the trace after some symbols
 unfoldable pub wordsTrace : Trace → List ℕ → Trace
 wordsTrace t [] = t
 wordsTrace t (k ∷ ks) = wordsTrace (wordChoice t k .after) ks
-
--- the automaton's state after a Sync Header: one ZERO since a ONE that has ten ZEROs before it
-abbrev pub headed : ℕ
-headed = 12
 
 -- the trace after a Sync Header
 unfoldable pub afterHeader : Tally → Trace
@@ -53,9 +49,11 @@ afterHeader t = record { run = headed; tally = cond (light t) (tallyAfter t head
 abbrev pub beforeNextHeader : Trace → List ℕ
 beforeNextHeader t = beforeHeader (passes (t .run) start22) (tallyDsv (t .tally) header)
 
+-- those as a number, and the tally after them
 unfoldable pub chosenTail : Trace → Tail
 chosenTail t = record { bits = number 0 (beforeNextHeader t); after = tallyAfter (t .tally) (beforeNextHeader t) }
 
+-- where the trace fits
 unfoldable pub tailChoice : Trace → Tail
 tailChoice t = cond (fits t) (chosenTail t) (record { bits = 0; after = t .tally })
 

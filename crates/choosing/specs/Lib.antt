@@ -1,7 +1,5 @@
-pub mod Symbols
+-- what the choice goes by, and what is chosen
 pub mod Traces
 pub mod Choices
-pub mod States
-pub mod Profiles
-pub mod Strokes
-pub mod Candidates
+-- contracts of private functions
+pub mod Inner

@@ -4,7 +4,7 @@ use mathlib.Core.Bool.{Bool, _&&_}
 use mathlib.Core.List.{List}
 use Prim.Native.Nat.{ℕ, _+_, _≤_, _<_, _^_}
 use lib.Dec.{leb, ltb}
-use Rattle.merging.specs.Automaton.{steps}
+use Rattle.merging.specs.Automaton.{broken, steps}
 use Rattle.merging.specs.Chosen.{dsvAfter}
 use Rattle.merging.specs.Dsv.{levelAfter, ups, downs}
 use Rattle.choosing.specs.declared.Tally.{Tally}
@@ -34,15 +34,17 @@ light t = leb (t .level) 1 && (ltb (t .plus) (2 ^ 60) && ltb (t .minus) (2 ^ 60)
 
 -- and the rule is not broken
 unfoldable pub fits : Trace → Bool
-fits t = ltb (t .run) 22 && light (t .tally)
+fits t = ltb (t .run) broken && light (t .tally)
 
+-- the first test, as a record
 pub record Light (t : Tally) : Type 0 where
   pub level-low : t .level ≤ 1
   pub plus-low : t .plus < 2 ^ 60
   pub minus-low : t .minus < 2 ^ 60
 
+-- and the second
 pub record Fit (t : Trace) : Type 0 where
-  pub state : t .run < 22
+  pub state : t .run < broken
   pub room : Light (t .tally)
 
 -- the level is one, and neither count is above n

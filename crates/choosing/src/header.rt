@@ -3,10 +3,10 @@ ghost use mathlib.Core.Path.{_≡_};
 ghost use mathlib.Core.Bool.{cond};
 ghost use lib.Dec.{eqb};
 ghost use Rattle.choosing.specs.Choices.{afterHeader, tailChoice, beforeNextHeader};
-ghost use Rattle.choosing.specs.Candidates.{HeaderStands};
-ghost use Rattle.choosing.specs.States.{headerAfterOne, headerAfterZeros};
+ghost use Rattle.choosing.specs.Inner.Candidates.{HeaderStands};
+ghost use Rattle.choosing.specs.Inner.States.{headerAfterOne, headerAfterZeros};
 ghost use Rattle.choosing.specs.Traces.{Light, Fit};
-ghost use Rattle.choosing.specs.Strokes.{spent};
+ghost use Rattle.choosing.specs.Inner.Strokes.{spent};
 use crate::Tally;
 use crate::stroke;
 use crate::trace;
@@ -44,10 +44,10 @@ fn header_after_one(run: u8) -> u8
     ensures { λ r. ⌜ r ≡ headerAfterOne run ⌝ }
 {
     if run % 11 < 2 {
-        return 22;
+        return trace::BROKEN;
     }
     if run == 21 {
-        return 22;
+        return trace::BROKEN;
     }
     21
 }
@@ -58,7 +58,7 @@ fn header_after_zeros(run: u8) -> u8
     if run % 11 < 7 {
         return 21;
     }
-    22
+    trace::BROKEN
 }
 
 // The better of 100 and 000 before a Sync Header.

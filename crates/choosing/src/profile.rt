@@ -2,8 +2,8 @@
 ghost use mathlib.Core.Path.{_≡_};
 ghost use Prim.Native.Nat.{_+_, _*_, _<_};
 ghost use lib.ListN.{getD};
-ghost use Rattle.choosing.specs.Profiles.{profileOf, rows};
-ghost use Rattle.choosing.specs.Symbols.{symbols};
+ghost use Rattle.choosing.specs.Inner.Profiles.{profileOf, rows};
+ghost use Rattle.words.specs.Symbols.{symbols};
 use crate::table;
 
 // A word as far as it matters to the choice: its ZEROs before the first ONE, the automaton's state after it if that ONE has not, or has, ten

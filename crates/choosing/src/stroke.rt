@@ -4,7 +4,7 @@ ghost use mathlib.Core.Bool.{cond};
 ghost use Prim.Native.Nat.{_-_, _≤_};
 ghost use lib.Dec.{eqb};
 ghost use Rattle.choosing.specs.Traces.{Light};
-ghost use Rattle.choosing.specs.Strokes.{spent};
+ghost use Rattle.choosing.specs.Inner.Strokes.{spent};
 use crate::Tally;
 
 // The level after an even or an odd number of ONEs.

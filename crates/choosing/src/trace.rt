@@ -2,8 +2,11 @@
 ghost use mathlib.Core.Path.{_≡_};
 ghost use Rattle.merging.specs.Dsv.{absolute};
 ghost use Rattle.choosing.specs.Traces.{light, fits};
-ghost use Rattle.choosing.specs.Candidates.{betterOf};
+ghost use Rattle.choosing.specs.Inner.Candidates.{betterOf};
 use crate::Tally;
+
+// The automaton's state where the rule is broken.
+pub(crate) const BROKEN: u8 = 22;
 
 // What was written so far, as far as it matters to the Merging bits that follow: the automaton's state, and the tally.
 pub struct Trace {
@@ -35,7 +38,7 @@ pub(crate) fn is_fit(t: Trace) -> bool
     ensures { λ r. ⌜ r ≡ fits t ⌝ }
 {
     let tally = t.tally;
-    if t.run < 22 {
+    if t.run < BROKEN {
         return is_light(tally);
     }
     false
@@ -57,10 +60,10 @@ pub(crate) fn better_of(a: Choice, b: Choice) -> Choice
 {
     let x = a.after;
     let y = b.after;
-    if y.run == 22 {
+    if y.run == BROKEN {
         return a;
     }
-    if x.run == 22 {
+    if x.run == BROKEN {
         return b;
     }
     let p = abs_dsv(x.tally);

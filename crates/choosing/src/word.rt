@@ -2,12 +2,13 @@
 ghost use mathlib.Core.Path.{_≡_};
 ghost use Prim.Native.Nat.{_+_, _-_, _*_, _≤_, _<_, _^_};
 ghost use Rattle.bits.specs.Bits.{bitsOf};
+ghost use Rattle.merging.specs.Automaton.{broken};
 ghost use Rattle.merging.specs.Chosen.{m000};
 ghost use Rattle.choosing.specs.Choices.{chosenWord, wordChoice};
-ghost use Rattle.choosing.specs.Candidates.{oneAfter, WordStands};
-ghost use Rattle.choosing.specs.States.{entered, afterWord, afterZeros};
-ghost use Rattle.choosing.specs.Profiles.{Profiled, rows};
-ghost use Rattle.choosing.specs.Symbols.{symbols};
+ghost use Rattle.choosing.specs.Inner.Candidates.{oneAfter, WordStands};
+ghost use Rattle.choosing.specs.Inner.States.{entered, afterWord, afterZeros};
+ghost use Rattle.choosing.specs.Inner.Profiles.{Profiled, rows};
+ghost use Rattle.words.specs.Symbols.{symbols};
 ghost use Rattle.choosing.specs.Traces.{Fit};
 use crate::profile;
 use crate::profile::Profile;
@@ -23,16 +24,16 @@ fn enter(run: u8, zeros: u8, plain: u8, ten: u8) -> u8
 {
     let z = run % 11 + zeros;
     if z < 2 {
-        return 22;
+        return trace::BROKEN;
     }
     if 10 < z {
-        return 22;
+        return trace::BROKEN;
     }
     if z == 10 {
         if run < 11 {
             return ten;
         }
-        return 22;
+        return trace::BROKEN;
     }
     plain
 }
@@ -42,21 +43,21 @@ fn after_word(run: u8, p: Profile) -> u8
     requires { ⌜ p .lead ≤ 10 ⌝ }
     ensures { λ r. ⌜ r ≡ afterWord run p ⌝ }
 {
-    if run == 22 {
-        return 22;
+    if run == trace::BROKEN {
+        return trace::BROKEN;
     }
     enter(run, p.lead, p.plain, p.ten)
 }
 
 // The state after 000.
 fn after_zeros(run: u8) -> u8
-    requires { ⌜ run < 22 ⌝ }
+    requires { ⌜ run < broken ⌝ }
     ensures { λ r. ⌜ r ≡ afterZeros run ⌝ }
 {
     if run % 11 < 8 {
         return run + 3;
     }
-    22
+    trace::BROKEN
 }
 
 // Merging bits with a ONE after `before` ZEROs, and the word.

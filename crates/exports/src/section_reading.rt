@@ -1,12 +1,12 @@
 // Reading a Section.
 ghost use mathlib.Core.Path.{_≡_};
 ghost use mathlib.Core.List.{[]};
-ghost use Rattle.section_reader.specs.ReadSay.{sayRead, readOut, sectionRead};
+ghost use Rattle.section_reader.specs.ReadSay.{sayOf, readOut, sectionRead};
 ghost use Rattle.told.specs.Told.{numberOf, Told};
 use section_reader::SectionRead;
 
 fn tell(a: SectionRead) -> u8
-    ensures { λ r. ⌜ r ≡ numberOf (sayRead a) ⌝ }
+    ensures { λ r. ⌜ r ≡ numberOf (sayOf a) ⌝ }
 {
     match a {
         SectionRead::Done => 0,

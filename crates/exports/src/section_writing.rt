@@ -3,13 +3,13 @@ ghost use mathlib.Core.Path.{_≡_};
 ghost use mathlib.Core.List.{[]};
 ghost use Rattle.calls.specs.Step.{step};
 ghost use Rattle.section_writer.specs.State.{fresh};
-ghost use Rattle.section_writer.specs.WriteSay.{sayWritten, written};
+ghost use Rattle.section_writer.specs.WriteSay.{sayOf, written};
 ghost use Rattle.told.specs.Told.{numberOf, Told};
 use section_writer::SectionWriter;
 use section_writer::SectionWritten;
 
 fn tell(a: SectionWritten) -> u8
-    ensures { λ r. ⌜ r ≡ numberOf (sayWritten a) ⌝ }
+    ensures { λ r. ⌜ r ≡ numberOf (sayOf a) ⌝ }
 {
     match a {
         SectionWritten::Done => 0,

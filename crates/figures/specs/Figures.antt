@@ -17,7 +17,7 @@ use Rattle.circ_streams.specs.Streams.Fresh.{zero-frames}
 use Rattle.bits.specs.Bits.{bitsOf}
 use Rattle.words.specs.Words.{words, wordOf, sync0, sync1}
 use Rattle.merging.specs.Automaton.{step, steps, live, shown}
-use Rattle.merging.specs.Chosen.{Written, after, withHeader, m100, m010, m001, m000}
+use Rattle.merging.specs.Chosen.{SoFar, after, withHeader, m100, m010, m001, m000}
 use Rattle.merging.specs.Rule.{header, headers, allowed}
 use Rattle.section_state.specs.Carried.{beginning}
 use Rattle.section_writer.specs.State.{fresh}
@@ -46,15 +46,15 @@ onlyBefore b one other s =
     (allowed (shown s ++ bitsOf 14 (wordOf b)) header one && not (allowed (shown s ++ bitsOf 14 (wordOf b)) header other)) true
 
 -- the start of a disc, and what then stands there: the first Sync Header; 000 and SYNC 0 behind it
-abbrev start : Written
+abbrev start : SoFar
 start =
     let begun = beginning (fresh .dsv) (fresh .level) in record { bits = []; level = begun .level; plus = begun .plus; minus = begun .minus }
 
-abbrev afterSync0 : Written
+abbrev afterSync0 : SoFar
 afterSync0 = after (withHeader start) (m000 ++ bitsOf 14 sync0)
 
 -- the DSV: bits at level +1 less bits at level -1
-abbrev dsv : Written → ℤ
+abbrev dsv : SoFar → ℤ
 dsv w = subℕ (w .plus) (w .minus)
 
 unfoldable pub figures : List Figure

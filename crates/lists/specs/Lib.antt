@@ -3,3 +3,5 @@ pub mod Same
 pub mod Laid
 -- parts of lists
 pub mod Agree
+-- facts of the numbers below a bound
+pub mod Each

@@ -12,16 +12,18 @@ use Rattle.merging.specs.Dsv.{levelAfter, ups, downs, absolute}
 pub mod Fold
 pub mod Stands
 pub mod Behind
+pub mod Better
+pub mod ThreeBits
 
 -- what is written: the bits of the Section so far, the level after them, and how many bits there ever were at level +1 and at -1
-pub record Written : Type 0 where
+pub record SoFar : Type 0 where
   pub bits : List ℕ
   pub level : ℕ
   pub plus : ℕ
   pub minus : ℕ
 
 -- more bits
-abbrev pub after : Written → List ℕ → Written
+abbrev pub after : SoFar → List ℕ → SoFar
 after w bs =
     record {
       bits = w .bits ++ bs;
@@ -34,6 +36,7 @@ after w bs =
 abbrev pub dsvAfter : ℕ → ℕ → ℕ → List ℕ → List ℕ → ℕ
 dsvAfter level plus minus next m = absolute (plus + ups level (m ++ next)) (minus + downs level (m ++ next))
 
+-- the four Merging bits
 abbrev pub m100 : List ℕ
 m100 = 1 ∷ 0 ∷ 0 ∷ []
 
@@ -46,10 +49,11 @@ m001 = 0 ∷ 0 ∷ 1 ∷ []
 abbrev pub m000 : List ℕ
 m000 = 0 ∷ 0 ∷ 0 ∷ []
 
--- all that may stand before a word, and before a Sync Header, in document 01's order of preference
+-- all that may stand before a word, in document 01's order of preference
 abbrev pub forWord : List (List ℕ)
 forWord = m100 ∷ m010 ∷ m001 ∷ m000 ∷ []
 
+-- and before a Sync Header
 abbrev pub forHeader : List (List ℕ)
 forHeader = m100 ∷ m000 ∷ []
 
@@ -78,15 +82,15 @@ unfoldable pub beforeHeader : (List ℕ → Bool) → (List ℕ → ℕ) → Lis
 beforeHeader ok dsv = better ok dsv m100 m000
 
 -- a word is written, after its Merging bits
-unfoldable pub withWord : Written → List ℕ → Written
+unfoldable pub withWord : SoFar → List ℕ → SoFar
 withWord w next =
     after w
     (beforeWord (allowed (w .bits) next) (dsvAfter (w .level) (w .plus) (w .minus) next) ++ next)
 
 -- a Sync Header is written, at its place
-unfoldable pub withHeader : Written → Written
+unfoldable pub withHeader : SoFar → SoFar
 withHeader w = after w header
 
 -- the Merging bits before the next Sync Header are written
-unfoldable pub withTail : Written → Written
+unfoldable pub withTail : SoFar → SoFar
 withTail w = after w (beforeHeader (allowed (w .bits) header) (dsvAfter (w .level) (w .plus) (w .minus) header))

@@ -3,6 +3,7 @@
 -- Assumes nothing.
 use mathlib.Core.List.{List, [], _∷_}
 use Prim.Native.Nat.{ℕ, zero, suc, _+_, _-_}
+pub mod Levels
 
 -- the level at a bit
 abbrev pub flip : ℕ → ℕ → ℕ

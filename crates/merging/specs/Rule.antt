@@ -5,8 +5,9 @@ use mathlib.Core.List.{List, [], _∷_, _++_}
 use Prim.Native.Nat.{ℕ, suc, _+_}
 use lib.Dec.{eqb}
 use Rattle.bits.specs.Bits.{bitsOf}
-use Rattle.words.specs.Runs.{runs}
+use Rattle.words.specs.RunRule.{runs}
 pub mod Earlier
+pub mod Headers
 
 -- the Sync Header of clause 19.2 (Annex E prints it with 22 digits: with nine ZEROs in each of its two runs, and not ten)
 abbrev pub header : List ℕ

@@ -9,12 +9,12 @@ use native.Mathlib.Omega.{arith}
 use lib.ListN.{length}
 use Rattle.outcome.specs.Bytes.{Bytes}
 use Rattle.bits.specs.Bits.{unpack}
-use Rattle.bits.specs.Packed.{three, from-three}
+use Rattle.bits.specs.Bits.Fields.{threeBytes, from-three}
 use Rattle.section_reader.specs.Reading.{fieldAt}
 
 -- n bits from bit p on, of three bytes at once
 pub field-is : (xs : List ℕ) (p n : ℕ) → Bytes xs → p / 8 + 2 < length xs → p % 8 + n ≤ 24
-    → three xs (p / 8) / 2 ^ (24 - (p % 8 + n)) % 2 ^ n ≡ fieldAt (unpack xs) p n
+    → threeBytes xs (p / 8) / 2 ^ (24 - (p % 8 + n)) % 2 ^ n ≡ fieldAt (unpack xs) p n
 field-is xs p n h r l =
     let e : 8 * (p / 8) + p % 8 ≡ p = omega arith in
     sym (from-three xs h (p / 8) r (p % 8) n l) ∙ ap (λ (q : ℕ). fieldAt (unpack xs) q n) e

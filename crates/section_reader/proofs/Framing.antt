@@ -10,7 +10,7 @@ use Rattle.outcome.specs.Buffer.{Filling}
 use Rattle.outcome.specs.Buffer.Filled.{filling-none, filling-more, filling-long, filling-all}
 use Rattle.outcome.specs.Table.Entries.{tabulated-at, length-tabulated}
 use Rattle.bits.specs.Bits.{unpack}
-use Rattle.bits.specs.Packed.{length-unpack}
+use Rattle.bits.specs.Bits.Packed.{length-unpack}
 use Rattle.words.specs.Words.{byteOf}
 use Rattle.section_reader.specs.declared.reader.Frame.the-variants.{Read, NoHeader}
 use Rattle.section_reader.specs.Reading.{headless, wordRead, byteFor, markFor, wordByte, wordMark}

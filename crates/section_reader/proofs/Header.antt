@@ -8,7 +8,7 @@ use native.Mathlib.Omega.{arith}
 use borrow.Author.Tests.{eq-eqb, ne-eqb}
 use lib.ListN.{length, take, drop, length-take, length-drop}
 use lib.Seq.{take-add, drop-drop}
-use Rattle.bits.specs.Numbers.{number-append, number-shift}
+use Rattle.bits.specs.Bits.Numbers.{number-append, number-shift}
 use Rattle.bits.specs.Bits.{number}
 use Rattle.section_reader.specs.Reading.{fieldAt, headless}
 

@@ -1,5 +1,5 @@
 pub mod Fields
 pub mod Header
 pub mod Framing
-pub mod Going
-pub mod Ways
+pub mod FramesRead
+pub mod WaysOut

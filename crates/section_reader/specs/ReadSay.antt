@@ -15,10 +15,10 @@ pub mod NeverEight
 pub mod AsBefore
 
 -- document 01's number and values for each answer
-abbrev pub sayRead : SectionRead → Say
-sayRead Done = done []
-sayRead WrongIncoming = refused 1 []
-sayRead WrongOutgoing = refused 2 []
+abbrev pub sayOf : SectionRead → Say
+sayOf Done = done []
+sayOf WrongIncoming = refused 1 []
+sayOf WrongOutgoing = refused 2 []
 
 -- all that reading does: what it says, and what both buffers then hold
 pub record ReadOut : Type 0 where
@@ -26,6 +26,7 @@ pub record ReadOut : Type 0 where
   pub bytes : List ℕ
   pub marks : List ℕ
 
+-- these three together
 abbrev pub readOut : Say → List ℕ → List ℕ → ReadOut
 readOut s b m = record { say = s; bytes = b; marks = m }
 
@@ -33,6 +34,7 @@ readOut s b m = record { say = s; bytes = b; marks = m }
 unfoldable pub readSay : List ℕ → List ℕ → List ℕ → Say
 readSay channel bytes marks = demand (eqb (length channel) 7203) 1 (demand (eqb (length bytes) 3234 && eqb (length marks) 3234) 2 (done []))
 
+-- what reading does
 unfoldable pub sectionRead : List ℕ → List ℕ → List ℕ → ReadOut
 sectionRead channel bytes marks =
     readOut (readSay channel bytes marks) (leaves (readSay channel bytes marks) 3234 (bytesRead (unpack channel)) bytes)

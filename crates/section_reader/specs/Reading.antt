@@ -14,7 +14,7 @@ use Rattle.words.specs.Words.{byteOf, sync0, sync1}
 pub mod Places
 pub mod Alone
 pub mod Lost
-pub mod Standing
+pub mod WordByWord
 
 -- the number of n bits from bit p on
 abbrev pub fieldAt : List ℕ → ℕ → ℕ → ℕ
@@ -42,29 +42,34 @@ abbrev pub markFor : Symbol → ℕ → ℕ → ℕ
 markFor (Byte b) w i = 0
 markFor Unknown w i = cond (eqb i 0) (cond (eqb w sync0) 2 (cond (eqb w sync1) 3 1)) 1
 
--- the byte of the word at place i of frame f, and its mark
+-- the byte of the word at place i of frame f
 abbrev pub wordByte : List ℕ → ℕ → ℕ → ℕ
 wordByte bits f i = byteFor (byteOf (wordRead bits f i))
 
+-- and its mark
 abbrev pub wordMark : List ℕ → ℕ → ℕ → ℕ
 wordMark bits f i = markFor (byteOf (wordRead bits f i)) (wordRead bits f i) i
 
--- what is read at place i of frame f: the byte of its word and its mark, or 0 and 4 where the frame has no Sync Header
+-- the byte that is read at place i of frame f: that of its word, or 0 where the frame has no Sync Header
 abbrev pub frameByte : List ℕ → ℕ → ℕ → ℕ
 frameByte bits f i = cond (headless bits f) 0 (wordByte bits f i)
 
+-- and the mark: that of the word, or 4
 abbrev pub frameMark : List ℕ → ℕ → ℕ → ℕ
 frameMark bits f i = cond (headless bits f) 4 (wordMark bits f i)
 
--- byte and mark at place k of all 98 times 33, frame by frame
+-- the byte at place k of all 98 times 33, frame by frame
 abbrev pub byteRead : List ℕ → ℕ → ℕ
 byteRead bits k = frameByte bits (k / 33) (k % 33)
 
+-- and the mark
 abbrev pub markRead : List ℕ → ℕ → ℕ
 markRead bits k = frameMark bits (k / 33) (k % 33)
 
+-- all bytes of a Section
 unfoldable pub bytesRead : List ℕ → List ℕ
 bytesRead bits = tabulated (byteRead bits) 0 3234
 
+-- and all marks
 unfoldable pub marksRead : List ℕ → List ℕ
 marksRead bits = tabulated (markRead bits) 0 3234

@@ -3,7 +3,7 @@ ghost use mathlib.Core.Path.{_≡_};
 ghost use lib.ListN.{length};
 ghost use Rattle.bits.specs.Bits.{unpack};
 ghost use Rattle.section_reader.specs.Reading.{bytesRead, marksRead};
-ghost use Rattle.section_reader.specs.ReadSay.{sayRead, readOut, sectionRead};
+ghost use Rattle.section_reader.specs.ReadSay.{sayOf, readOut, sectionRead};
 use reader::Frame;
 
 mod reader;
@@ -43,7 +43,7 @@ fn read_frames(channel: &[u8], bytes: &mut [u8], marks: &mut [u8])
 
 // 7,203 bytes of Channel bits become 3,234 bytes and 3,234 marks, frame by frame, the Control byte first.
 pub fn read_section(channel: &[u8], bytes: &mut [u8], marks: &mut [u8]) -> SectionRead
-    ensures { λ r. ⌜ readOut (sayRead r) (now (bytes .exit)) (now (marks .exit)) ≡ sectionRead (now (channel .entry)) (now (bytes .entry)) (now (marks .entry)) ⌝ }
+    ensures { λ r. ⌜ readOut (sayOf r) (now (bytes .exit)) (now (marks .exit)) ≡ sectionRead (now (channel .entry)) (now (bytes .entry)) (now (marks .entry)) ⌝ }
 {
     if channel.len() != 7203 {
         outcome::wipe(bytes, 3234);

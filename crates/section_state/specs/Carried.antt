@@ -7,12 +7,17 @@ use lib.IntN.{ℤ, pos, negsuc, subℕ, natAbs}
 use Rattle.choosing.specs.declared.Tally.{Tally}
 pub mod Range
 
--- a writer writes at most 450,000 Sections, of 57,624 Channel bits each
+-- a writer writes at most 450,000 Sections
 abbrev pub mostSections : ℕ
 mostSections = 450000
 
+-- of 57,624 Channel bits each
 abbrev pub sectionBits : ℕ
 sectionBits = 57624
+
+-- the farthest that a DSV may be from 0
+abbrev pub farthest : ℕ
+farthest = sectionBits * mostSections
 
 -- the level is +1 or -1
 abbrev pub levelRight : ℤ → Bool
@@ -23,20 +28,22 @@ levelRight (negsuc n) = eqb n 0
 abbrev pub possible : ℤ → ℤ → ℕ → Bool
 possible dsv level sections = levelRight level && (leb sections mostSections && leb (natAbs dsv) (sectionBits * sections))
 
--- a DSV as two counts: how far above 0, and how far below
+-- a DSV as two counts: how far above 0
 abbrev pub above : ℤ → ℕ
 above (pos n) = n
 above (negsuc n) = 0
 
+-- how far below
 abbrev pub below : ℤ → ℕ
 below (pos n) = 0
 below (negsuc n) = suc n
 
--- the level as 1 for +1 and 0 for -1, and back
+-- the level as 1 for +1 and 0 for -1
 abbrev pub levelNow : ℤ → ℕ
 levelNow (pos n) = 1
 levelNow (negsuc n) = 0
 
+-- and back
 abbrev pub levelThen : ℕ → ℤ
 levelThen zero = negsuc 0
 levelThen (suc l) = pos 1

@@ -1,1 +1,2 @@
+-- what a Section writer carries from Section to Section
 pub mod Carried

@@ -1,35 +1,36 @@
 -- What is chosen for a frame is what the rule chooses: after a Sync Header, the 33 words, and the Merging bits before the next one.
 -- Assumes nothing.
-use mathlib.Core.Path.{_≡_, refl, sym, ap, ap₂, _∙_, subst}
+use mathlib.Core.Path.{_≡_, refl, sym, ap, _∙_, subst}
 use mathlib.Core.Bool.{true}
 use mathlib.Core.Logic.{_⊎_, inl, inr}
-use mathlib.Core.List.{List, [], _∷_, _++_, append-assoc}
-use Prim.Native.Nat.{ℕ, zero, suc, _+_, _*_, _≤_, _<_, _^_}
+use mathlib.Core.List.{List, _∷_, _++_, append-assoc}
+use Prim.Native.Nat.{ℕ, suc, _+_, _*_, _≤_, _<_, _^_}
 use native.Mathlib.Omega.{arith}
 use lib.Dec.{T}
 use lib.ListN.{length, getD}
 use Rattle.outcome.specs.First.Found.{lt-or-le}
 use Rattle.bits.specs.Bits.{bitsOf}
 use Rattle.words.specs.Words.{wordOf, sync0, sync1}
-use Rattle.merging.specs.Agree.{Takes, taken, header-agrees, header-passes}
-use Rattle.merging.specs.Automaton.{steps, live, start22}
-use Rattle.merging.specs.Chosen.{Written, after, withHeader, withTail}
-use Rattle.merging.specs.Ready.{ready}
+use Rattle.merging.specs.Ready.{Takes, ready}
+use Rattle.merging.specs.Ready.Agrees.{taken, header-agrees, header-passes}
+use Rattle.merging.specs.Automaton.{steps, live, start22, headed}
+use Rattle.merging.specs.Chosen.{SoFar, after, withHeader, withTail}
 use Rattle.merging.specs.Rule.{header}
-use Rattle.merging.specs.Taken.{word-taken, sync0-taken, sync1-taken, header-taken}
-use Rattle.merging.specs.Ties.{Tied, tied-more, tied-header, steps-append, live-first}
+use Rattle.merging.specs.Ready.Taken.{word-taken, sync0-taken, sync1-taken, header-taken}
+use Rattle.merging.specs.Automaton.Speaks.{state-more, state-header}
+use Rattle.merging.specs.Automaton.Steps.{steps-append, live-first}
 use Rattle.choosing.specs.declared.FrameChoice.{FrameChoice}
 use Rattle.choosing.specs.declared.Tally.{Tally}
 use Rattle.choosing.specs.declared.header.Tail.{Tail}
 use Rattle.choosing.specs.declared.trace.Trace.{Trace}
-use Rattle.choosing.specs.Choices.{wordsChosen, wordsTrace, headed, afterHeader, beforeNextHeader, chosenTail, tailChoice, frameChoice}
+use Rattle.choosing.specs.Choices.{wordsChosen, wordsTrace, afterHeader, beforeNextHeader, chosenTail, tailChoice, frameChoice}
 use Rattle.choosing.specs.Choices.Digits.{tail-digits, tail-bits}
-use Rattle.choosing.specs.Symbols.{symbols, bitsAt, wordsOf}
-use Rattle.choosing.specs.Symbols.Which.{symbol-word, symbol-256, symbol-257}
+use Rattle.words.specs.Symbols.{symbols, bitsAt, wordsOf}
+use Rattle.words.specs.Symbols.Which.{symbol-word, symbol-256, symbol-257}
 use Rattle.choosing.specs.Traces.{tallyAfter, tallyDsv, light, fits, Within}
 use Rattle.choosing.specs.Traces.Room.{room-light, fit-fits, within-light, within-after}
-use Rattle.section_writer.specs.BufferBits.{wordBits}
-use Rattle.section_writer.specs.FrameSteps.{noted, Opens}
+use Rattle.section_writer.specs.Inner.BufferBits.{wordBits}
+use Rattle.section_writer.specs.Inner.FrameSteps.{noted, Opens}
 use Rattle.section_writer.specs.Section.{withWords, withFrame}
 use Rattle.section_writer.proofs.ChosenWords.{Stands, Leads, AllBytes, word-leads, words-lead, leads-more}
 
@@ -44,11 +45,11 @@ module _ (past : List ℕ) (n : ℕ) (t : Tally) (opens : Opens past) (w : Withi
   unfolding withHeader ready
   header-leads =
       subst (λ (x : Trace). Leads past header (n + 24) x (after (noted past t) header)) (sym goes-over)
-      (record { stands = record { tied = opens; at-ease = tt; within = within-after w header }; is = refl })
+      (record { stands = record { in-state = opens; at-ease = tt; within = within-after w header }; is = refl })
 
 -- ---- the Merging bits before the next one
 
-pub record Ends (past more : List ℕ) (n : ℕ) (t : Tally) (meant : Written) : Type 0 where
+pub record Ends (past more : List ℕ) (n : ℕ) (t : Tally) (meant : SoFar) : Type 0 where
   pub opens : Opens (past ++ more)
   pub within : Within n t
   pub is : noted (past ++ more) t ≡ meant
@@ -59,7 +60,7 @@ module _ (past : List ℕ) (n : ℕ) (t : Trace) (s : Stands past n t) (room : n
 
   tail-is : tailChoice t ≡ chosenTail t
   unfolding tailChoice
-  tail-is = let f : fits t ≡ true = fit-fits t (record { state = s .tied .state; room = within-light (s .within) room }) in rw f
+  tail-is = let f : fits t ≡ true = fit-fits t (record { state = s .in-state .state; room = within-light (s .within) room }) in rw f
 
   fine : T (live (steps (steps (t .run) m) start22))
   unfolding m
@@ -70,9 +71,9 @@ module _ (past : List ℕ) (n : ℕ) (t : Trace) (s : Stands past n t) (room : n
   ended =
       let d = tail-digits t in
       record {
-        opens = tied-header (past ++ m) (steps (t .run) m) (tied-more past (t .run) m (s .tied) (d .binary) (live-first (steps (t .run) m) start22 fine)) fine;
+        opens = state-header (past ++ m) (steps (t .run) m) (state-more past (t .run) m (s .in-state) (d .binary) (live-first (steps (t .run) m) start22 fine)) fine;
         within = subst (λ (x : ℕ). Within (n + x) (tallyAfter (t .tally) m)) (d .long) (within-after (s .within) m);
-        is = ap (after (noted past (t .tally))) (sym (header-agrees (t .run) (header-taken (t .run) (s .at-ease)) (tallyDsv (t .tally) header) past (s .tied)));
+        is = ap (after (noted past (t .tally))) (sym (header-agrees (t .run) (header-taken (t .run) (s .at-ease)) (tallyDsv (t .tally) header) past (s .in-state)));
       }
 
   -- they are written as the rule has it
@@ -125,7 +126,7 @@ module _ (past : List ℕ) (n : ℕ) (t : Tally) (opens : Opens past) (w : Withi
   words-after k ks low bytes long =
       let h = header-leads past n t opens w (omega arith) in
       let one = word-leads (past ++ header) (n + 24) (afterHeader t) k (h .stands) (omega arith) low (first-takes k low) in
-      subst (λ (x : Written). Leads (past ++ header) (wordBits (wordsChosen (afterHeader t) (k ∷ ks))) (n + 24 + 17 * suc (length ks)) (wordsTrace (afterHeader t) (k ∷ ks)) (withWords x (wordsOf (k ∷ ks))))
+      subst (λ (x : SoFar). Leads (past ++ header) (wordBits (wordsChosen (afterHeader t) (k ∷ ks))) (n + 24 + 17 * suc (length ks)) (wordsTrace (afterHeader t) (k ∷ ks)) (withWords x (wordsOf (k ∷ ks))))
       (h .is) (leads-more (past ++ header) (n + 24) (afterHeader t) k ks (noted (past ++ header) (afterHeader t .tally)) one (words-lead ks bytes) (omega arith))
 
   -- a frame is written as the rule has it

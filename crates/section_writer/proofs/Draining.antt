@@ -11,10 +11,10 @@ use lib.Pow.{pow-pos, pow-mono, pow-add, shr-lt, split}
 use lib.ListN.{length, set, take, length-set}
 use lib.Seq.{take-suc-set}
 use Rattle.bits.specs.Bits.{bitsOf, unpack}
-use Rattle.bits.specs.Numbers.{bits-split, bits-low, bits-join}
-use Rattle.bits.specs.Packed.{unpack-append}
+use Rattle.bits.specs.Bits.Numbers.{bits-split, bits-low, bits-join}
+use Rattle.bits.specs.Bits.Packed.{unpack-append}
 use Rattle.section_writer.specs.declared.pen.Pen.{Pen}
-use Rattle.section_writer.specs.BufferBits.{Room, Inked}
+use Rattle.section_writer.specs.Inner.BufferBits.{Room, Inked}
 
 pub record Draining (out₀ : List ℕ) (held₀ count₀ at₀ : ℕ) (out : List ℕ) (held count at : ℕ) : Type 0 where
   pub long : length out ≡ length out₀

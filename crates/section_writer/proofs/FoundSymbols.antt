@@ -1,6 +1,6 @@
 -- The symbol of each word of a frame, by where the word comes from; and the symbols of a frame, one after the other.
 -- Assumes nothing.
-use mathlib.Core.Path.{_≡_, refl, sym, _∙_, subst}
+use mathlib.Core.Path.{_≡_, sym, _∙_, subst}
 use mathlib.Core.Logic.{_⊎_, inl, inr}
 use mathlib.Core.List.{List}
 use Prim.Native.Nat.{ℕ, _+_, _-_, _*_, _≤_, _<_}
@@ -11,10 +11,9 @@ use lib.ListN.{length, getD, set}
 use lib.Seq.{getD-set-same, getD-set-other, ext-getD}
 use Rattle.outcome.specs.Table.{tabulated}
 use Rattle.outcome.specs.Table.Entries.{length-tabulated, tabulated-at}
-use Rattle.words.specs.Words.{wordOf}
-use Rattle.choosing.specs.Symbols.{symbols, wordsOf}
-use Rattle.choosing.specs.Symbols.Which.{symbol-word, symbol-256, symbol-257, words-length, words-at}
-use Rattle.section_writer.specs.FrameSteps.{SymbolFound, SymbolsFound}
+use Rattle.words.specs.Symbols.{wordsOf}
+use Rattle.words.specs.Symbols.Which.{symbol-word, symbol-256, symbol-257, words-length, words-at}
+use Rattle.section_writer.specs.Inner.FrameSteps.{SymbolFound, SymbolsFound}
 use Rattle.section_writer.specs.Section.{wordAt, frameWords}
 
 module _ (frames control : List ℕ) (f i : ℕ) where

@@ -8,20 +8,20 @@ use native.Mathlib.Omega.{arith}
 use lib.ListN.{length, getD, take}
 use lib.Seq.{take-length}
 use Rattle.bits.specs.Bits.{bitsOf, unpack}
-use Rattle.merging.specs.Chosen.{Written}
+use Rattle.merging.specs.Chosen.{SoFar}
 use Rattle.merging.specs.Rule.{header}
-use Rattle.merging.specs.Ties.{tied-first}
+use Rattle.merging.specs.Automaton.Speaks.{state-first}
 use Rattle.choosing.specs.declared.FrameChoice.{FrameChoice}
 use Rattle.choosing.specs.declared.Tally.{Tally}
 use Rattle.choosing.specs.Choices.{frameChoice, afterHeader, wordsTrace}
 use Rattle.choosing.specs.Choices.Digits.{words-small, tail-small}
-use Rattle.choosing.specs.Symbols.{wordsOf}
+use Rattle.words.specs.Symbols.{wordsOf}
 use Rattle.choosing.specs.Traces.{Within}
-use Rattle.section_state.specs.Carried.Range.{farthest}
+use Rattle.section_state.specs.Carried.{farthest}
 use Rattle.section_writer.specs.declared.frame.Writing.{Writing}
 use Rattle.section_writer.specs.declared.pen.Pen.{Pen}
-use Rattle.section_writer.specs.BufferBits.{inked, penPlace, Inked, wordBits, WordsInked}
-use Rattle.section_writer.specs.FrameSteps.{SymbolsFound, noted, Resting, FrameDue, FrameDone, sectionEnd, FramesDone}
+use Rattle.section_writer.specs.Inner.BufferBits.{inked, penPlace, Inked, wordBits, WordsInked}
+use Rattle.section_writer.specs.Inner.FrameSteps.{SymbolsFound, noted, Resting, FrameDue, FrameDone, sectionEnd, FramesDone}
 use Rattle.section_writer.specs.Section.{frameWords, withFrame, withFrames, sectionAfter}
 use Rattle.section_writer.proofs.ChosenFrame.{Ends, FrameFits, frameBits, frame-ends}
 use Rattle.section_writer.proofs.ChosenWords.{AllBytes}
@@ -100,13 +100,13 @@ pub frames-none : (t : Tally) (frames control out : List ℕ) → length out ≡
 unfolding sectionAfter unpack
 frames-none t frames control out l w =
     record {
-      rest = record { held = record { few = omega arith; fits = omega arith }; long = l; within = w; opens = tied-first };
+      rest = record { held = record { few = omega arith; fits = omega arith }; long = l; within = w; opens = state-first };
       upto = omega arith;
       place = refl;
       is = refl;
     }
 
-frames-next : (x : Written) (frames control : List ℕ) (f n k : ℕ) → n ≡ suc k
+frames-next : (x : SoFar) (frames control : List ℕ) (f n k : ℕ) → n ≡ suc k
     → withFrames x frames control f n ≡ withFrames (withFrame x (frameWords frames control f)) frames control (suc f) k
 unfolding withFrames
 frames-next x frames control f n k e = ap (withFrames x frames control f) e
@@ -122,7 +122,7 @@ module _ {t : Tally} {frames control out : List ℕ} {w : Writing} {f : ℕ} (g 
         upto = omega arith;
         place = omega (arith, d .place, g .place);
         is = ap (λ (j : ℕ). withFrames (noted (inked out′ (w′ .pen)) (w′ .tally)) frames control j (98 - (f + 1))) (add-one f)
-            ∙ ap (λ (x : Written). withFrames x frames control (suc f) (98 - (f + 1))) (d .is)
+            ∙ ap (λ (x : SoFar). withFrames x frames control (suc f) (98 - (f + 1))) (d .is)
             ∙ sym (frames-next (noted (inked out (w .pen)) (w .tally)) frames control f (98 - f) (98 - (f + 1)) (omega arith))
             ∙ g .is;
       }

@@ -16,19 +16,19 @@ use Rattle.outcome.specs.Say.{done, refused, cleared, leaves}
 use Rattle.outcome.specs.Say.Refusals.{cleared-right, cleared-wrong}
 use Rattle.calls.specs.Step.{Step, step, handedBack}
 use Rattle.bits.specs.Bits.{pack, unpack}
-use Rattle.bits.specs.Packed.{packed}
-use Rattle.merging.specs.Chosen.{Written}
+use Rattle.bits.specs.Bits.Packed.{packed}
+use Rattle.merging.specs.Chosen.{SoFar}
 use Rattle.choosing.specs.declared.Tally.{Tally}
 use Rattle.choosing.specs.Traces.{Within}
-use Rattle.section_state.specs.Carried.{mostSections, possible, beginning}
-use Rattle.section_state.specs.Carried.Range.{farthest, begins}
+use Rattle.section_state.specs.Carried.{mostSections, possible, beginning, farthest, above, below, levelNow}
+use Rattle.section_state.specs.Carried.Range.{begins}
 use Rattle.section_writer.specs.declared.SectionStep.{SectionStep}
 use Rattle.section_writer.specs.declared.SectionWriter.{SectionWriter}
 use Rattle.section_writer.specs.declared.SectionWritten.{SectionWritten}
-use Rattle.section_writer.specs.FrameSteps.{noted, FramesDone}
+use Rattle.section_writer.specs.Inner.FrameSteps.{noted, FramesDone}
 use Rattle.section_writer.specs.Section.{sectionAfter}
-use Rattle.section_writer.specs.State.{right, above, below, levelNow, advanced}
-use Rattle.section_writer.specs.WriteSay.{sayWritten, section, afterSection, writeSay, written}
+use Rattle.section_writer.specs.State.{right, advanced}
+use Rattle.section_writer.specs.WriteSay.{sayOf, section, afterSection, writeSay, written}
 
 module _ (s : SectionWriter) (frames control out : List ℕ) where
   refusal : (n : ℕ) → writeSay s frames control out ≡ refused n [] → step (refused n []) s (cleared 7203 out) ≡ written s frames control out
@@ -76,16 +76,16 @@ module _ (s : SectionWriter) (frames control out : List ℕ) where
           let w = sectionAfter (levelNow (s .level)) (above (s .dsv)) (below (s .dsv)) frames control in
           let q : noted (unpack o) t′ ≡ w
           = d .is ∙ ap (λ (x : Tally). sectionAfter (x .level) (x .plus) (x .minus) frames control) b in
-          ap₂ (step (done [])) (a ∙ ap (λ (x : Written). advanced (x .level) (x .plus) (x .minus) (s .sections)) q)
-          (packed 7203 o (w .bits) y z (ap (λ (x : Written). x .bits) q))
+          ap₂ (step (done [])) (a ∙ ap (λ (x : SoFar). advanced (x .level) (x .plus) (x .minus) (s .sections)) q)
+          (packed 7203 o (w .bits) y z (ap (λ (x : SoFar). x .bits) q))
           ∙ (λ i. step (sym e i) (handedBack (sym e i) (afterSection s (section s frames control)) s) (leaves (sym e i) 7203 (pack 7203 (section s frames control .bits)) out))
 
 -- ---- what the calls on a way out give
 
 -- a refusal hands back the state
-pub by-refusal : (r : SectionStep) (s : SectionWriter) (answer : SectionWritten) (o : List ℕ) (w : Step SectionWriter) → (r .next ≡ s) × (r .answer ≡ answer) → step (sayWritten answer) s o ≡ w
-    → step (sayWritten (r .answer)) (r .next) o ≡ w
-by-refusal r s answer o w e p = ap₂ (λ (a : SectionWritten) (x : SectionWriter). step (sayWritten a) x o) (e .1) (e .0) ∙ p
+pub by-refusal : (r : SectionStep) (s : SectionWriter) (answer : SectionWritten) (o : List ℕ) (w : Step SectionWriter) → (r .next ≡ s) × (r .answer ≡ answer) → step (sayOf answer) s o ≡ w
+    → step (sayOf (r .answer)) (r .next) o ≡ w
+by-refusal r s answer o w e p = ap₂ (λ (a : SectionWritten) (x : SectionWriter). step (sayOf a) x o) (e .1) (e .0) ∙ p
 
 -- the numbers that were asked about are those of the state, read from it
 module _ (s : SectionWriter) (fits-dsv : SFits w64 (s .dsv)) (fits-level : SFits w64 (s .level)) where

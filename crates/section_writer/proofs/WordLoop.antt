@@ -1,6 +1,6 @@
 -- Words of 17 bits, one after the other: the bits of the first i are written.
 -- Assumes nothing.
-use mathlib.Core.Path.{_≡_, refl, sym, ap, ap₂, _∙_, subst}
+use mathlib.Core.Path.{_≡_, refl, sym, ap, _∙_}
 use mathlib.Core.List.{List, [], _∷_, _++_, append-assoc, append-nil}
 use Prim.Native.Nat.{ℕ, zero, suc, _+_, _*_, _≤_, _<_}
 use native.Mathlib.Nat.{not-suc-le-zero, le-of-suc-le-suc}
@@ -10,7 +10,7 @@ use lib.ListN.{length, getD, take}
 use lib.Seq.{take-all}
 use Rattle.bits.specs.Bits.{bitsOf}
 use Rattle.section_writer.specs.declared.pen.Pen.{Pen}
-use Rattle.section_writer.specs.BufferBits.{inked, penPlace, Held, Inked, wordBits, WordsDue, WordsInked}
+use Rattle.section_writer.specs.Inner.BufferBits.{inked, penPlace, Held, Inked, wordBits, WordsInked}
 
 -- one word more
 word-bits-more : (vs : List ℕ) (i : ℕ) → i < length vs → wordBits (take (suc i) vs) ≡ wordBits (take i vs) ++ bitsOf 17 (getD vs i 0)

@@ -1,5 +1,6 @@
+-- a Section, the states of a writer, and what writing answers
 pub mod Section
 pub mod State
 pub mod WriteSay
-pub mod BufferBits
-pub mod FrameSteps
+-- contracts of private functions
+pub mod Inner

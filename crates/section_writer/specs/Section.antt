@@ -9,7 +9,7 @@ use lib.ListN.{getD}
 use Rattle.outcome.specs.Table.{tabulated}
 use Rattle.bits.specs.Bits.{bitsOf}
 use Rattle.words.specs.Words.{wordOf, sync0, sync1}
-use Rattle.merging.specs.Chosen.{Written, withWord, withHeader, withTail}
+use Rattle.merging.specs.Chosen.{SoFar, withWord, withHeader, withTail}
 
 -- word i of frame f, the Control word first
 unfoldable pub wordAt : List ℕ → List ℕ → ℕ → ℕ → ℕ
@@ -23,20 +23,20 @@ unfoldable pub frameWords : List ℕ → List ℕ → ℕ → List ℕ
 frameWords frames control f = tabulated (wordAt frames control f) 0 33
 
 -- some words are written, each after its Merging bits
-unfoldable pub withWords : Written → List ℕ → Written
+unfoldable pub withWords : SoFar → List ℕ → SoFar
 withWords w [] = w
 withWords w (x ∷ xs) = withWords (withWord w (bitsOf 14 x)) xs
 
 -- a Channel Frame is written
-unfoldable pub withFrame : Written → List ℕ → Written
+unfoldable pub withFrame : SoFar → List ℕ → SoFar
 withFrame w ws = withTail (withWords (withHeader w) ws)
 
 -- n frames from frame f on
-unfoldable pub withFrames : Written → List ℕ → List ℕ → ℕ → ℕ → Written
+unfoldable pub withFrames : SoFar → List ℕ → List ℕ → ℕ → ℕ → SoFar
 withFrames w frames control f zero = w
 withFrames w frames control f (suc n) = withFrames (withFrame w (frameWords frames control f)) frames control (suc f) n
 
 -- a whole Section, after the level and the counts of bits at level +1 and -1 that are carried over
-unfoldable pub sectionAfter : ℕ → ℕ → ℕ → List ℕ → List ℕ → Written
+unfoldable pub sectionAfter : ℕ → ℕ → ℕ → List ℕ → List ℕ → SoFar
 sectionAfter level plus minus frames control =
     withFrames (record { bits = []; level = level; plus = plus; minus = minus }) frames control 0 98

@@ -3,9 +3,8 @@
 use mathlib.Core.Bool.{Bool}
 use Prim.Native.Nat.{ℕ, _+_}
 use lib.IntN.{pos, negsuc, subℕ}
-use Rattle.section_state.specs.Carried.{possible}
+use Rattle.section_state.specs.Carried.{possible, levelThen}
 use Rattle.section_writer.specs.declared.SectionWriter.{SectionWriter}
-pub use Rattle.section_state.specs.Carried.{levelRight, above, below, levelNow, levelThen}
 
 -- at the start the DSV is 0, the level -1 and no Section is written
 abbrev pub fresh : SectionWriter

@@ -8,28 +8,29 @@ use lib.ListN.{length}
 use Rattle.outcome.specs.Say.{Say, done, refused, demand}
 use Rattle.calls.specs.Step.{Step, stepOf}
 use Rattle.bits.specs.Bits.{pack}
-use Rattle.merging.specs.Chosen.{Written}
-use Rattle.section_state.specs.Carried.{mostSections}
+use Rattle.merging.specs.Chosen.{SoFar}
+use Rattle.section_state.specs.Carried.{mostSections, above, below, levelNow}
 use Rattle.section_writer.specs.declared.SectionWriter.{SectionWriter}
 use Rattle.section_writer.specs.declared.SectionWritten.{SectionWritten}
 use Rattle.section_writer.specs.declared.SectionWritten.the-variants.{Done, WrongIncoming, WrongOutgoing, ImpossibleState, DiscFull}
 use Rattle.section_writer.specs.Section.{sectionAfter}
-use Rattle.section_writer.specs.State.{right, above, below, levelNow, advanced}
+use Rattle.section_writer.specs.State.{right, advanced}
+pub mod One
 
 -- document 01's number for each answer
-abbrev pub sayWritten : SectionWritten → Say
-sayWritten Done = done []
-sayWritten WrongIncoming = refused 1 []
-sayWritten WrongOutgoing = refused 2 []
-sayWritten ImpossibleState = refused 9 []
-sayWritten DiscFull = refused 7 []
+abbrev pub sayOf : SectionWritten → Say
+sayOf Done = done []
+sayOf WrongIncoming = refused 1 []
+sayOf WrongOutgoing = refused 2 []
+sayOf ImpossibleState = refused 9 []
+sayOf DiscFull = refused 7 []
 
 -- the Section that a writer makes of frames and Control bytes: its bits, and level and DSV after them
-unfoldable pub section : SectionWriter → List ℕ → List ℕ → Written
+unfoldable pub section : SectionWriter → List ℕ → List ℕ → SoFar
 section s frames control = sectionAfter (levelNow (s .level)) (above (s .dsv)) (below (s .dsv)) frames control
 
 -- the state after it
-unfoldable pub afterSection : SectionWriter → Written → SectionWriter
+unfoldable pub afterSection : SectionWriter → SoFar → SectionWriter
 afterSection s w = advanced (w .level) (w .plus) (w .minus) (s .sections)
 
 -- the demands in document 01's order

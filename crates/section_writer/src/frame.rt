@@ -2,9 +2,9 @@
 ghost use mathlib.Core.Path.{_≡_};
 ghost use lib.ListN.{length};
 ghost use Rattle.choosing.specs.Traces.{Within};
-ghost use Rattle.section_state.specs.Carried.Range.{farthest};
-ghost use Rattle.section_writer.specs.BufferBits.{WordsDue, WordsInked};
-ghost use Rattle.section_writer.specs.FrameSteps.{FrameDue, FrameDone, FramesDone};
+ghost use Rattle.section_state.specs.Carried.{farthest};
+ghost use Rattle.section_writer.specs.Inner.BufferBits.{WordsDue, WordsInked};
+ghost use Rattle.section_writer.specs.Inner.FrameSteps.{FrameDue, FrameDone, FramesDone};
 use crate::pen;
 use crate::pen::Pen;
 use crate::symbols;

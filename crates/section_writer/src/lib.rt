@@ -5,8 +5,8 @@ ghost use Rattle.calls.specs.Step.{step};
 ghost use Rattle.choosing.specs.Traces.{Within};
 ghost use Rattle.section_state.specs.Carried.{mostSections};
 ghost use Rattle.section_writer.specs.State.{fresh, advanced};
-ghost use Rattle.section_writer.specs.FrameSteps.{sectionEnd};
-ghost use Rattle.section_writer.specs.WriteSay.{sayWritten, written};
+ghost use Rattle.section_writer.specs.Inner.FrameSteps.{sectionEnd};
+ghost use Rattle.section_writer.specs.WriteSay.{sayOf, written};
 use choosing::Tally;
 
 mod frame;
@@ -70,7 +70,7 @@ impl SectionWriter {
 
     // A Section of 98 frames of 32 bytes and of 96 Control bytes becomes 7,203 bytes of Channel bits.
     pub fn write(self, frames: &[u8], control: &[u8], out: &mut [u8]) -> SectionStep
-        ensures { λ r. ⌜ step (sayWritten (r .answer)) (r .next) (now (out .exit)) ≡ written self (now (frames .entry)) (now (control .entry)) (now (out .entry)) ⌝ }
+        ensures { λ r. ⌜ step (sayOf (r .answer)) (r .next) (now (out .exit)) ≡ written self (now (frames .entry)) (now (control .entry)) (now (out .entry)) ⌝ }
     {
         if frames.len() != 3136 {
             outcome::wipe(out, 7203);

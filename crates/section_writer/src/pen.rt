@@ -2,7 +2,7 @@
 ghost use mathlib.Core.Path.{_≡_};
 ghost use Prim.Native.Nat.{_+_, _*_, _≤_, _<_, _^_};
 ghost use lib.ListN.{length};
-ghost use Rattle.section_writer.specs.BufferBits.{Room, Inked};
+ghost use Rattle.section_writer.specs.Inner.BufferBits.{Room, Inked};
 
 // The next byte's place, and the bits that wait for it: `count` of them, fewer than eight.
 pub struct Pen {

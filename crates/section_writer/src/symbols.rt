@@ -2,7 +2,7 @@
 ghost use mathlib.Core.Path.{_≡_};
 ghost use Prim.Native.Nat.{_<_};
 ghost use lib.ListN.{length};
-ghost use Rattle.section_writer.specs.FrameSteps.{SymbolFound, SymbolsFound};
+ghost use Rattle.section_writer.specs.Inner.FrameSteps.{SymbolFound, SymbolsFound};
 
 // Which symbol is word i of frame f: a byte, or 256 for SYNC 0 and 257 for SYNC 1. The Control byte comes first.
 fn symbol_at(frames: &[u8], control: &[u8], f: usize, i: usize) -> u16

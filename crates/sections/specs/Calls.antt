@@ -8,6 +8,7 @@ use lib.ListN.{length}
 use Rattle.outcome.specs.Say.{Say, done, demand}
 use Rattle.calls.specs.Step.{Step, step, isDone}
 use Rattle.bits.specs.Bits.{pack}
+use Rattle.section_state.specs.Carried.{mostSections}
 use Rattle.section_writer.specs.declared.SectionWriter.{SectionWriter}
 use Rattle.section_writer.specs.WriteSay.{section, afterSection, written}
 use Rattle.sections.specs.Stream.{Part}
@@ -44,7 +45,7 @@ outgoing (t ∷ ts) = t .out ++ outgoing ts
 abbrev pub sayAfter : ℕ → Call → Say
 sayAfter n c =
     demand (eqb (length (c .part .frames)) 3136 && eqb (length (c .part .control)) 96) 1
-    (demand (eqb (length (c .out)) 7203) 2 (demand (ltb n 450000) 7 (done [])))
+    (demand (eqb (length (c .out)) 7203) 2 (demand (ltb n mostSections) 7 (done [])))
 
 -- what calls say one after the other, after n that were done
 unfoldable pub says : ℕ → List Call → List Say

@@ -5,11 +5,12 @@ use mathlib.Core.List.{List}
 use Prim.Native.Nat.{ℕ}
 use lib.ListN.{length}
 use Rattle.bits.specs.Binary.{Binary}
-use Rattle.merging.specs.Chosen.{Written, after}
+use Rattle.merging.specs.Chosen.{SoFar, after}
 pub mod Section
+pub mod StateStays
 
 -- w′ is w and n bits more
-pub record Grown (n : ℕ) (w w′ : Written) : Type 0 where
+pub record Grown (n : ℕ) (w w′ : SoFar) : Type 0 where
   pub bits : List ℕ
   pub long : length bits ≡ n
   pub binary : Binary bits

@@ -26,17 +26,19 @@ pub record Laid (frames control bits : List ℕ) (p f : ℕ) : Type 0 where
 abbrev pub atPlace : ℕ → ℕ → ℕ → ℕ → ℕ → ℕ → ℕ
 atPlace f i a b c d = cond (eqb i 0) (cond (eqb f 0) a (cond (eqb f 1) b c)) d
 
--- the byte and the mark that a reader finds there: the SYNCs have byte 0 and marks 2 and 3
+-- the byte that a reader finds there: 0 at the SYNCs
 abbrev pub laidByte : List ℕ → List ℕ → ℕ → ℕ → ℕ
 laidByte frames control f i = atPlace f i 0 0 (getD control (f - 2) 0) (getD frames (32 * f + (i - 1)) 0)
 
+-- and the mark: 2 and 3 at the SYNCs, 0 elsewhere
 abbrev pub laidMark : ℕ → ℕ → ℕ
 laidMark f i = atPlace f i 2 3 0 0
 
--- all 98 times 33 of them
+-- all 98 times 33 bytes
 unfoldable pub laidBytes : List ℕ → List ℕ → List ℕ
 laidBytes frames control = tabulated (λ k. laidByte frames control (k / 33) (k % 33)) 0 3234
 
+-- and marks
 unfoldable pub laidMarks : List ℕ
 laidMarks = tabulated (λ k. laidMark (k / 33) (k % 33)) 0 3234
 

@@ -1,8 +1,8 @@
-pub mod MergingBits
+-- Sections in a row: their bits, and calls of `write`
 pub mod Stream
-pub mod Runs
-pub mod Grown
-pub mod Carried
-pub mod Laid
 pub mod Calls
-pub mod Coincide
+-- what is read of a written Section
+pub mod Laid
+-- what is written grows at its end, and keeps the run rule
+pub mod Grown
+pub mod RuleHolds

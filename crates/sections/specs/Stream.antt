@@ -3,10 +3,10 @@
 use mathlib.Core.List.{List, [], _∷_, _++_}
 use Prim.Native.Nat.{ℕ}
 use Rattle.outcome.specs.Bytes.{Bytes}
-use Rattle.merging.specs.Chosen.{Written}
+use Rattle.merging.specs.Chosen.{SoFar}
 use Rattle.section_writer.specs.declared.SectionWriter.{SectionWriter}
 use Rattle.section_writer.specs.Section.{withFrames}
-use Rattle.section_writer.specs.State.{above, below, levelNow}
+use Rattle.section_state.specs.Carried.{above, below, levelNow}
 use Rattle.section_writer.specs.WriteSay.{section, afterSection}
 pub mod Rules
 pub mod Earlier
@@ -24,13 +24,13 @@ streamOf s [] = []
 streamOf s (p ∷ ps) = section s (p .frames) (p .control) .bits ++ streamOf (afterSection s (section s (p .frames) (p .control))) ps
 
 -- where a Section begins, after the bits `old`
-abbrev pub atStart : List ℕ → SectionWriter → Written
+abbrev pub atStart : List ℕ → SectionWriter → SoFar
 atStart old s = record { bits = old; level = levelNow (s .level); plus = above (s .dsv); minus = below (s .dsv) }
 
 -- ---- the same of a writer that asks the rule of Merging bits of all that was ever written, and not of the Section alone
 
 -- the bits `old` and a Section after them
-unfoldable pub sectionAmong : List ℕ → SectionWriter → Part → Written
+unfoldable pub sectionAmong : List ℕ → SectionWriter → Part → SoFar
 sectionAmong old s p = withFrames (atStart old s) (p .frames) (p .control) 0 98
 
 -- the bits `old` and Sections after them

@@ -11,11 +11,11 @@ use borrow.Author.Tests.{lt-ltb}
 use lib.Dec.{T, eqb, ltb, eqb→eq}
 use lib.ListN.{length, getD, length-map, List·getD-map, List·getD-eq-default}
 use Rattle.outcome.specs.First.Found.{lt-or-le}
-use Rattle.outcome.specs.Table.{tabulated}
-use Rattle.outcome.specs.Table.Entries.{tabulated-at, length-tabulated}
+use Rattle.outcome.specs.Table.{tabulated, allBelow}
+use Rattle.outcome.specs.Table.Entries.{tabulated-at, length-tabulated, below}
 use Rattle.words.specs.Words.{words, wordOf, placeOf}
-use Rattle.words.specs.Every.{every, each}
-use Rattle.words.specs.Facts.{how-many, nowhere}
+use Rattle.words.specs.Words.Facts.{how-many}
+use Rattle.words.specs.Words.Different.{nowhere}
 use Rattle.words.specs.LookUp.{Free, Guide}
 
 unfoldable pub remainders : List ℕ
@@ -36,14 +36,14 @@ remainder-at : (b : ℕ) → getD remainders b 0 ≡ wordOf b % 1351
 unfolding remainders
 remainder-at b = List·getD-map (λ w. w % 1351) words b 0
 
-all-different : T (every (λ k r. eqb (placeOf r remainders) k) 0 remainders)
+all-different : T (allBelow (λ b. eqb (placeOf (getD remainders b 0) remainders) b) 256)
 unfolding remainders words
 all-different = tt
 
 remainder-place : (b : ℕ) → b < 256 → placeOf (wordOf b % 1351) remainders ≡ b
 remainder-place b h =
     ap (λ (r : ℕ). placeOf r remainders) (sym (remainder-at b))
-    ∙ eqb→eq (placeOf (getD remainders b 0) remainders) b (each (λ k r. eqb (placeOf r remainders) k) remainders all-different b (rw how-many-remainders h))
+    ∙ eqb→eq (placeOf (getD remainders b 0) remainders) b (below (λ b. eqb (placeOf (getD remainders b 0) remainders) b) 256 all-different b h)
 
 entry-of-word : (b : ℕ) → b < 256 → entry (wordOf b % 1351) ≡ b
 unfolding entry

@@ -11,6 +11,7 @@ use Rattle.words.specs.declared.Symbol.{Symbol}
 use Rattle.words.specs.declared.Symbol.the-variants.{Byte, Unknown}
 use Rattle.words.specs.Words.{wordOf}
 pub mod One
+pub mod Finds
 
 -- no word leaves the remainder i
 abbrev pub Free : ℕ → Type 0

@@ -7,6 +7,8 @@ use lib.Dec.{eqb, ltb}
 use lib.ListN.{getD}
 use Rattle.words.specs.declared.Symbol.{Symbol}
 use Rattle.words.specs.declared.Symbol.the-variants.{Byte, Unknown}
+pub mod Facts
+pub mod Different
 
 -- the words of (00) to (FF), eight to a line
 unfoldable pub words : List ℕ

@@ -9,11 +9,13 @@ use borrow.Author.Tests.{lt-ltb, le-leb}
 use lib.Dec.{leb, ltb, leb→le, ltb→lt}
 use lib.ListN.{length}
 use Rattle.outcome.specs.Table.Entries.{and-left, and-right, of-true, true-of}
-use Rattle.merging.specs.Levels.{ups-downs, level-le}
+use Rattle.merging.specs.Dsv.Levels.{ups-downs, level-le}
+use Rattle.merging.specs.Automaton.{broken}
 use Rattle.choosing.specs.declared.Tally.{Tally}
 use Rattle.choosing.specs.declared.trace.Trace.{Trace}
 use Rattle.choosing.specs.Traces.{tallyAfter, light, fits, Light, Fit, Within}
 
+-- the test of a tally, as a record
 pub light-room : (t : Tally) → light t ≡ true → Light t
 unfolding light
 light-room t e =
@@ -25,22 +27,25 @@ light-room t e =
       minus-low = ltb→lt (t .minus) (2 ^ 60) (and-right (ltb (t .plus) (2 ^ 60)) (ltb (t .minus) (2 ^ 60)) b);
     }
 
+-- and back
 pub room-light : (t : Tally) → Light t → light t ≡ true
 unfolding light
 room-light t l = simp (le-leb (t .level) 1 (l .level-low), lt-ltb (t .plus) (2 ^ 60) (l .plus-low), lt-ltb (t .minus) (2 ^ 60) (l .minus-low))
 
+-- the test of a trace, as a record
 pub fits-fit : (t : Trace) → fits t ≡ true → Fit t
 unfolding fits
 fits-fit t e =
     let a = of-true (fits t) e in
     record {
-      state = ltb→lt (t .run) 22 (and-left (ltb (t .run) 22) (light (t .tally)) a);
-      room = light-room (t .tally) (true-of (light (t .tally)) (and-right (ltb (t .run) 22) (light (t .tally)) a));
+      state = ltb→lt (t .run) broken (and-left (ltb (t .run) broken) (light (t .tally)) a);
+      room = light-room (t .tally) (true-of (light (t .tally)) (and-right (ltb (t .run) broken) (light (t .tally)) a));
     }
 
+-- and back
 pub fit-fits : (t : Trace) → Fit t → fits t ≡ true
 unfolding fits
-fit-fits t f = simp (lt-ltb (t .run) 22 (f .state), room-light (t .tally) (f .room))
+fit-fits t f = simp (lt-ltb (t .run) broken (f .state), room-light (t .tally) (f .room))
 
 -- counts that are not above n have room while n has
 pub within-light : {n : ℕ} {t : Tally} → Within n t → n < 2 ^ 60 → Light t

@@ -4,39 +4,41 @@ use mathlib.Core.Path.{_≡_, sym, ap, _∙_}
 use mathlib.Core.Logic.{_⊎_, inl, inr}
 use mathlib.Core.List.{List, [], _++_, append-assoc, append-nil}
 use Prim.Native.Nat.{ℕ}
-use Rattle.merging.specs.Chosen.{Written, after, dsvAfter, beforeWord, beforeHeader, withWord, withHeader, withTail}
+use Rattle.merging.specs.Chosen.{SoFar, after, dsvAfter, beforeWord, beforeHeader, withWord, withHeader, withTail}
 use Rattle.merging.specs.Rule.{header, allowed}
 use Rattle.merging.specs.Rule.Earlier.{earlier-word, earlier-header}
-use Rattle.merging.specs.Ties.{Tied}
+use Rattle.merging.specs.Automaton.{headed, StateOf}
 
 -- the same, with the bits of earlier Sections in front
-abbrev pub behind : List ℕ → Written → Written
+abbrev pub behind : List ℕ → SoFar → SoFar
 behind old w = record { bits = old ++ w .bits; level = w .level; plus = w .plus; minus = w .minus }
 
 -- a Sync Header stands first, as it does wherever Merging bits are chosen
-pub record Begun (w : Written) : Type 0 where
+pub record Begun (w : SoFar) : Type 0 where
   pub rest : List ℕ
   pub begins : w .bits ≡ header ++ rest
 
-begun-after : (w : Written) (bs : List ℕ) → Begun w → Begun (after w bs)
+begun-after : (w : SoFar) (bs : List ℕ) → Begun w → Begun (after w bs)
 begun-after w bs b = record { rest = b .rest ++ bs; begins = ap (λ (l : List ℕ). l ++ bs) (b .begins) ∙ append-assoc header (b .rest) bs }
 
 -- it does after the first Sync Header, and after whatever is written then
-pub begun-header : (w : Written) → (w .bits ≡ []) ⊎ Begun w → Begun (withHeader w)
+pub begun-header : (w : SoFar) → (w .bits ≡ []) ⊎ Begun w → Begun (withHeader w)
 unfolding withHeader
 begun-header w (inl e) = record { rest = []; begins = ap (λ (l : List ℕ). l ++ header) e ∙ sym (append-nil header) }
 begun-header w (inr b) = begun-after w header b
 
-pub begun-word : (w : Written) (next : List ℕ) → Begun w → Begun (withWord w next)
+-- a word
+pub begun-word : (w : SoFar) (next : List ℕ) → Begun w → Begun (withWord w next)
 unfolding withWord
 begun-word w next b = begun-after w (beforeWord (allowed (w .bits) next) (dsvAfter (w .level) (w .plus) (w .minus) next) ++ next) b
 
-pub begun-tail : (w : Written) → Begun w → Begun (withTail w)
+-- or Merging bits
+pub begun-tail : (w : SoFar) → Begun w → Begun (withTail w)
 unfolding withTail
 begun-tail w b = begun-after w (beforeHeader (allowed (w .bits) header) (dsvAfter (w .level) (w .plus) (w .minus) header)) b
 
 module _ (old : List ℕ) where
-  after-behind : (w : Written) (bs : List ℕ) → after (behind old w) bs ≡ behind old (after w bs)
+  after-behind : (w : SoFar) (bs : List ℕ) → after (behind old w) bs ≡ behind old (after w bs)
   after-behind w bs = λ i.
       record {
         bits = append-assoc old (w .bits) bs i;
@@ -46,11 +48,11 @@ module _ (old : List ℕ) where
       }
 
   -- a Sync Header
-  pub header-behind : (w : Written) → withHeader (behind old w) ≡ behind old (withHeader w)
+  pub header-behind : (w : SoFar) → withHeader (behind old w) ≡ behind old (withHeader w)
   unfolding withHeader
   header-behind w = after-behind w header
 
-  module _ (follows : Tied (old ++ header) 12) (w : Written) (b : Begun w) where
+  module _ (follows : StateOf (old ++ header) headed) (w : SoFar) (b : Begun w) where
     -- a word, after its Merging bits
     pub word-behind : (next : List ℕ) → withWord (behind old w) next ≡ behind old (withWord w next)
     unfolding withWord

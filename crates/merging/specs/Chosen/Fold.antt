@@ -42,8 +42,8 @@ module _ (ok : List ℕ → Bool) (dsv : List ℕ → ℕ) where
   best a (c ∷ cs) = best (better ok dsv a c) cs
 
   -- a is chosen from those seen so far, or none of them is allowed
-  abbrev Sofar : List (List ℕ) → List ℕ → Type 0
-  Sofar seen a = Chosen seen ok dsv a ⊎ ((ok a ≡ false) × ((k : ℕ) → k < length seen → T (ok (getD seen k [])) → ⊥))
+  abbrev BestYet : List (List ℕ) → List ℕ → Type 0
+  BestYet seen a = Chosen seen ok dsv a ⊎ ((ok a ≡ false) × ((k : ℕ) → k < length seen → T (ok (getD seen k [])) → ⊥))
 
   -- what holds of each and of one more
   one-more : (P : List ℕ → Type 0) (seen : List (List ℕ)) (c : List ℕ) → ((k : ℕ) → k < length seen → P (getD seen k [])) → P c
@@ -87,10 +87,10 @@ module _ (ok : List ℕ → Bool) (dsv : List ℕ → ℕ) where
         }
 
     -- so the better of the two is the choice from one more
-    one-on : Sofar seen a → Sofar (seen ++ (c ∷ [])) (better ok dsv a c)
+    one-on : BestYet seen a → BestYet (seen ++ (c ∷ [])) (better ok dsv a c)
     one-on = go (ok c) (ok a) (ltb (dsv c) (dsv a)) refl refl refl
       where
-        go : (x y z : Bool) → ok c ≡ x → ok a ≡ y → ltb (dsv c) (dsv a) ≡ z → Sofar seen a → Sofar (seen ++ (c ∷ [])) (cond x (cond y (cond z c a) c) a)
+        go : (x y z : Bool) → ok c ≡ x → ok a ≡ y → ltb (dsv c) (dsv a) ≡ z → BestYet seen a → BestYet (seen ++ (c ∷ [])) (cond x (cond y (cond z c a) c) a)
         go false y z p q r (inl h) = inl (stays (λ t. absurd (subst T p t)) h)
         go false y z p q r (inr h) = inr (h .0, one-more (λ x. T (ok x) → ⊥) seen c (h .1) (λ t. subst T p t))
         go true true true p q r (inl h) =
@@ -100,14 +100,14 @@ module _ (ok : List ℕ → Bool) (dsv : List ℕ → ℕ) where
         go true true z p q r (inr h) = absurd (subst T (sym q ∙ h .0) tt)
         go true false z p q r (inr h) = inl (takes-over (of-true (ok c) p) (λ k l u. absurd (h .1 k l u)))
 
-  first-one : (a : List ℕ) → Sofar (a ∷ []) a
+  first-one : (a : List ℕ) → BestYet (a ∷ []) a
   first-one a = go (ok a) refl
     where
       only : (P : List ℕ → Type 0) → P a → (k : ℕ) → k < 1 → P (getD (a ∷ []) k [])
       only P p zero h = p
       only P p (suc k) h = absurd (omega arith)
 
-      go : (x : Bool) → ok a ≡ x → Sofar (a ∷ []) a
+      go : (x : Bool) → ok a ≡ x → BestYet (a ∷ []) a
       go true p =
           inl
           (record {
@@ -120,18 +120,18 @@ module _ (ok : List ℕ → Bool) (dsv : List ℕ → ℕ) where
           })
       go false p = inr (p, only (λ x. T (ok x) → ⊥) (λ t. subst T p t))
 
-  all-on : (seen cs : List (List ℕ)) (a : List ℕ) → Sofar seen a → Sofar (seen ++ cs) (best a cs)
+  all-on : (seen cs : List (List ℕ)) (a : List ℕ) → BestYet seen a → BestYet (seen ++ cs) (best a cs)
   unfolding best
-  all-on seen [] a h = subst (λ (l : List (List ℕ)). Sofar l a) (sym (append-nil seen)) h
+  all-on seen [] a h = subst (λ (l : List (List ℕ)). BestYet l a) (sym (append-nil seen)) h
   all-on seen (c ∷ cs) a h =
-      subst (λ (l : List (List ℕ)). Sofar l (best (better ok dsv a c) cs)) (append-assoc seen (c ∷ []) cs)
+      subst (λ (l : List (List ℕ)). BestYet l (best (better ok dsv a c) cs)) (append-assoc seen (c ∷ []) cs)
       (all-on (seen ++ (c ∷ [])) cs (better ok dsv a c) (one-on seen a c h))
 
   -- THE FOLD'S ANSWER IS CHOSEN where one is allowed
   chosen-is : (a : List ℕ) (cs : List (List ℕ)) (k : ℕ) → k < length (a ∷ cs) → T (ok (getD (a ∷ cs) k [])) → Chosen (a ∷ cs) ok dsv (best a cs)
   chosen-is a cs k h t = go (all-on (a ∷ []) cs a (first-one a))
     where
-      go : Sofar (a ∷ cs) (best a cs) → Chosen (a ∷ cs) ok dsv (best a cs)
+      go : BestYet (a ∷ cs) (best a cs) → Chosen (a ∷ cs) ok dsv (best a cs)
       go (inl c) = c
       go (inr n) = absurd (n .1 k h t)
 
@@ -149,5 +149,6 @@ module _ (ok : List ℕ → Bool) (dsv : List ℕ → ℕ) where
   pub only-word : {m : List ℕ} → Chosen forWord ok dsv m → m ≡ beforeWord ok dsv
   only-word c = chosen-one c (chosen-word (c .place) (c .stands) (subst (λ (x : List ℕ). T (ok x)) (sym (c .is)) (c .is-allowed)))
 
+  -- before a Sync Header neither
   pub only-header : {m : List ℕ} → Chosen forHeader ok dsv m → m ≡ beforeHeader ok dsv
   only-header c = chosen-one c (chosen-header (c .place) (c .stands) (subst (λ (x : List ℕ). T (ok x)) (sym (c .is)) (c .is-allowed)))

@@ -8,13 +8,13 @@ use native.Mathlib.Omega.{arith}
 use lib.Dec.{T}
 use lib.ListN.{length}
 use Rattle.outcome.specs.Table.Entries.{and-left, and-right}
-use Rattle.merging.specs.Agree.{passes, Takes, word-keeps, header-keeps, one-agrees, word-agrees, word-passes, head-agrees, header-agrees, header-passes}
-use Rattle.merging.specs.Automaton.{start22}
+use Rattle.merging.specs.Automaton.{passes, start22, StateOf}
+use Rattle.merging.specs.Ready.{Takes, headerAgrees, takesHeader}
+use Rattle.merging.specs.Chosen.Better.{word-keeps, header-keeps}
+use Rattle.merging.specs.Ready.Agrees.{one-agrees, word-agrees, word-passes, head-agrees, header-agrees, header-passes}
 use Rattle.merging.specs.Chosen.{Chosen, beforeWord, beforeHeader, forWord, forHeader, m100, m000}
 use Rattle.merging.specs.Chosen.Fold.{chosen-word, chosen-header}
-use Rattle.merging.specs.Ready.{headerAgrees, takesHeader}
 use Rattle.merging.specs.Rule.{header, allowed}
-use Rattle.merging.specs.Ties.{Tied}
 
 -- what the fold gives is chosen if it is allowed
 word-if : (ok : List ℕ → Bool) (dsv : List ℕ → ℕ) → T (ok (beforeWord ok dsv)) → Chosen forWord ok dsv (beforeWord ok dsv)
@@ -31,7 +31,7 @@ header-if ok dsv =
 same-allowed : (rule auto : List ℕ → Bool) (m n : List ℕ) → m ≡ n → rule n ≡ auto n → T (auto n) → T (rule m)
 same-allowed rule auto m n e a t = subst (λ (x : List ℕ). T (rule x)) (sym e) (subst T (sym a) t)
 
-module _ (past : List ℕ) (s : ℕ) (d : Tied past s) (dsv : List ℕ → ℕ) where
+module _ (past : List ℕ) (s : ℕ) (d : StateOf past s) (dsv : List ℕ → ℕ) where
   -- before a word
   pub word-chosen : (bs : List ℕ) → length bs < 24 → Takes bs s → Chosen forWord (allowed past bs) dsv (beforeWord (allowed past bs) dsv)
   word-chosen bs short t =

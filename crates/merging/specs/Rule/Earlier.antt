@@ -7,19 +7,19 @@ use mathlib.Core.List.{List, _++_, append-assoc}
 use Prim.Native.Nat.{ℕ, _+_, _%_}
 use native.Mathlib.Nat.{add-assoc}
 use lib.Dec.{eqb}
-use Rattle.words.specs.Runs.{gaps, runs}
-use Rattle.merging.specs.Agree.{eqb-plus}
-use Rattle.merging.specs.Automaton.{shown}
+use Rattle.words.specs.RunRule.{gaps, runs}
+use Rattle.merging.specs.Rule.Headers.{eqb-plus}
+use Rattle.merging.specs.Automaton.{headed, shown, StateOf}
 use Rattle.merging.specs.Chosen.{beforeWord, beforeHeader}
 use Rattle.merging.specs.Rule.{header, headers, allowed}
-use Rattle.merging.specs.Ties.{Tied, tied-first}
+use Rattle.merging.specs.Automaton.Speaks.{state-first}
 
 -- the rule after a state and the bits `rest`
 unfoldable afterState : ℕ → List ℕ → List ℕ → List ℕ → Bool
 afterState s rest next m =
     gaps (s % 11) (rest ++ (m ++ next)) && eqb (headers (shown s ++ (rest ++ (m ++ next)))) (headers (shown s ++ rest) + headers next)
 
-by-state : (past : List ℕ) (s : ℕ) → Tied past s → (rest next m : List ℕ) → allowed (past ++ rest) next m ≡ afterState s rest next m
+by-state : (past : List ℕ) (s : ℕ) → StateOf past s → (rest next m : List ℕ) → allowed (past ++ rest) next m ≡ afterState s rest next m
 unfolding allowed afterState
 by-state past s d rest next m =
     let whole : (past ++ rest) ++ (m ++ next) ≡ past ++ (rest ++ (m ++ next)) = append-assoc past rest (m ++ next) in
@@ -31,14 +31,14 @@ by-state past s d rest next m =
     ∙ eqb-plus (headers past) x (y + headers next))
 
 -- bits with the same state allow the same, whatever follows them
-pub allowed-same : (a b : List ℕ) (s : ℕ) → Tied a s → Tied b s → (rest next m : List ℕ) → allowed (a ++ rest) next m ≡ allowed (b ++ rest) next m
+pub allowed-same : (a b : List ℕ) (s : ℕ) → StateOf a s → StateOf b s → (rest next m : List ℕ) → allowed (a ++ rest) next m ≡ allowed (b ++ rest) next m
 allowed-same a b s p q rest next m = by-state a s p rest next m ∙ sym (by-state b s q rest next m)
 
-module _ (old : List ℕ) (follows : Tied (old ++ header) 12) (rest next : List ℕ) where
+module _ (old : List ℕ) (follows : StateOf (old ++ header) headed) (rest next : List ℕ) where
   -- after a Sync Header, and any bits after it, the bits `old` before that Sync Header change nothing that is allowed
   pub earlier-allowed : (m : List ℕ) → allowed (old ++ (header ++ rest)) next m ≡ allowed (header ++ rest) next m
   earlier-allowed m =
-      ap (λ (l : List ℕ). allowed l next m) (sym (append-assoc old header rest)) ∙ allowed-same (old ++ header) header 12 follows tied-first rest next m
+      ap (λ (l : List ℕ). allowed l next m) (sym (append-assoc old header rest)) ∙ allowed-same (old ++ header) header headed follows state-first rest next m
 
   -- so the Merging bits chosen before a word are the same
   pub earlier-word : (dsv : List ℕ → ℕ) → beforeWord (allowed (old ++ (header ++ rest)) next) dsv ≡ beforeWord (allowed (header ++ rest) next) dsv

@@ -1,5 +1,5 @@
--- `read_frames` meets its contract. The invariant: the frames before f are in both buffers (`Going`); one that is read fills its places
--- (`going-read`), and one that is lost does too (`going-lost`).
+-- `read_frames` meets its contract. The invariant: the frames before f are in both buffers (`FramesRead`); one that is read fills its places
+-- (`frames-read`), and one that is lost does too (`frames-lost`).
 -- Assumes nothing.
 use mathlib.Core.Path.{sym, _∙_}
 use Prim.Native.Nat.{ℕ, _+_, _-_, _<_}
@@ -7,12 +7,12 @@ use mir.Syntax.{w64}
 use mir.Val.{Fits}
 use native.Mathlib.Omega.{arith}
 use borrow.Author.Needs.{needs}
-use Rattle.section_reader.proofs.Going.{Going, going-none, going-long, going-room, going-read, missed-long, missed-room, going-lost, going-all}
+use Rattle.section_reader.proofs.FramesRead.{FramesRead, frames-none, frames-long, frames-room, frames-read, missed-long, missed-room, frames-lost, frames-all}
 use Rattle.section_reader.proofs.read_frames.Statement.{statement}
 use Rattle.section_reader.proofs.read_frames.Tie as tie
 
 abbrev Inv-loop : tie.InvT-loop
-Inv-loop channel bytes₀ marks₀ table guide f₀ bytes marks f = Going channel bytes₀ marks₀ f bytes marks
+Inv-loop channel bytes₀ marks₀ table guide f₀ bytes marks f = FramesRead channel bytes₀ marks₀ f bytes marks
 
 abbrev μ-loop : tie.MeasureT-loop
 μ-loop channel bytes₀ marks₀ table guide f₀ bytes marks f = 98 - f
@@ -33,7 +33,7 @@ guide-requires c κs = search needs
 loop-holds : tie.Need-loop-holds Inv-loop μ-loop
 loop-holds c =
     let p = c .before .before .before .before .before .pre in
-    going-none _ _ _ (p .1) (p .2)
+    frames-none _ _ _ (p .1) (p .2)
 
 mul-at : tie.Need-mul-at Inv-loop μ-loop
 mul-at c = search needs
@@ -48,7 +48,7 @@ part-read-frame-start : tie.Need-part-read-frame-start Inv-loop μ-loop
 part-read-frame-start c = search needs
 
 part-read-frame-end : tie.Need-part-read-frame-end Inv-loop μ-loop
-part-read-frame-end c = omega (arith, going-long (c .before .before .before .loop .inv) .0)
+part-read-frame-end c = omega (arith, frames-long (c .before .before .before .loop .inv) .0)
 
 add-read-frame-2 : tie.Need-add-read-frame-2 Inv-loop μ-loop
 add-read-frame-2 c = search needs
@@ -60,13 +60,13 @@ part-read-frame-start-2 : tie.Need-part-read-frame-start-2 Inv-loop μ-loop
 part-read-frame-start-2 c = search needs
 
 part-read-frame-end-2 : tie.Need-part-read-frame-end-2 Inv-loop μ-loop
-part-read-frame-end-2 c = omega (arith, going-long (c .before .before .before .before .loop .inv) .1)
+part-read-frame-end-2 c = omega (arith, frames-long (c .before .before .before .before .loop .inv) .1)
 
 read-frame-requires : tie.Need-read-frame-requires Inv-loop μ-loop
 read-frame-requires c κs =
     let t = c .before .before .before .before in
     let l = t .before in
-    let room = going-room (l .loop .inv) (t .loop-test .taken) in
+    let room = frames-room (l .loop .inv) (t .loop-test .taken) in
     record {
       long = l .before .before .before .before .before .before .pre .0;
       table-is = l .before .before .all-words .ensures;
@@ -128,7 +128,7 @@ loop-again : tie.Need-loop-again Inv-loop μ-loop
 loop-again c =
     let r = c .before .before .before .before .before .before .before .before .before .before .before .before .before in
     let t = r .before .before .before .before .before in
-    going-lost (t .before .loop .inv) (t .loop-test .taken) (r .read-frame .result) (r .read-frame .ensures) (c .before .before .before .before .before .before .before .enum-told2 .given .1) _ _ (c .before .before .before .before .lose-frame .ensures .0) (c .before .before .before .before .lose-frame .ensures .1)
+    frames-lost (t .before .loop .inv) (t .loop-test .taken) (r .read-frame .result) (r .read-frame .ensures) (c .before .before .before .before .before .before .before .enum-told2 .given .1) _ _ (c .before .before .before .before .lose-frame .ensures .0) (c .before .before .before .before .lose-frame .ensures .1)
 
 add-f-2 : tie.Need-add-f-2 Inv-loop μ-loop
 add-f-2 c = search needs
@@ -140,16 +140,16 @@ loop-again-2 : tie.Need-loop-again-2 Inv-loop μ-loop
 loop-again-2 c =
     let r = c .before .before .before .before .before .before in
     let t = r .before .before .before .before .before in
-    going-read (t .before .loop .inv) (t .loop-test .taken) (r .read-frame .result) (r .read-frame .ensures) (c .enum-told .given .1)
+    frames-read (t .before .loop .inv) (t .loop-test .taken) (r .read-frame .result) (r .read-frame .ensures) (c .enum-told .given .1)
 
 same-length : tie.Need-same-length Inv-loop μ-loop
-same-length c = going-long (c .before .loop .inv) .0 ∙ sym (c .before .before .before .before .before .before .before .pre .1)
+same-length c = frames-long (c .before .loop .inv) .0 ∙ sym (c .before .before .before .before .before .before .before .pre .1)
 
 same-length-2 : tie.Need-same-length-2 Inv-loop μ-loop
-same-length-2 c = going-long (c .before .loop .inv) .1 ∙ sym (c .before .before .before .before .before .before .before .pre .2)
+same-length-2 c = frames-long (c .before .loop .inv) .1 ∙ sym (c .before .before .before .before .before .before .before .pre .2)
 
 returns : tie.Need-returns Inv-loop μ-loop
-returns c = going-all (c .before .loop .inv) (c .loop-test .left)
+returns c = frames-all (c .before .loop .inv) (c .loop-test .left)
 
 pub read-frames-spec : {M : Type 1} → statement M
 read-frames-spec =

@@ -1,6 +1,6 @@
--- `read_section` meets its contract: each way out is one of `Ways`, and `read_frames` promises the bytes and marks.
+-- `read_section` meets its contract: each way out is one of `WaysOut`, and `read_frames` promises the bytes and marks.
 -- Assumes nothing.
-use Rattle.section_reader.proofs.Ways.{wrong-channel, wrong-bytes, wrong-marks, all-read}
+use Rattle.section_reader.proofs.WaysOut.{wrong-channel, wrong-bytes, wrong-marks, all-read}
 use borrow.Author.Needs.{needs}
 use Rattle.section_reader.proofs.read_section.Statement.{statement}
 use Rattle.section_reader.proofs.read_section.Tie as tie

@@ -22,10 +22,11 @@ pub record FrameWanted (channel table guide : List ℕ) (f : ℕ) (bytes marks :
   pub room-bytes : length bytes ≡ 33
   pub room-marks : length marks ≡ 33
 
--- the bytes of the 33 words of frame f, and their marks
+-- the bytes of the 33 words of frame f
 unfoldable pub wordBytes : List ℕ → ℕ → List ℕ
 wordBytes bits f = tabulated (wordByte bits f) 0 33
 
+-- and their marks
 unfoldable pub wordMarks : List ℕ → ℕ → List ℕ
 wordMarks bits f = tabulated (wordMark bits f) 0 33
 

@@ -25,17 +25,19 @@ not-four Unknown w i = go (eqb i 0) (eqb w sync0) (eqb w sync1)
     go false q r = refl
 
 module _ (bits : List ℕ) (f : ℕ) (lost : headless bits f ≡ true) where
-  -- every byte of a lost frame is 0, and every mark 4
+  -- every byte of a lost frame is 0
   pub byte-lost : (i : ℕ) → frameByte bits f i ≡ 0
   byte-lost i = rw lost
 
+  -- and every mark 4
   pub mark-lost : (i : ℕ) → frameMark bits f i ≡ 4
   mark-lost i = rw lost
 
-  -- so are the 33 in its places of the Section
+  -- so are the 33 bytes in its places of the Section
   pub bytes-lost : f < 98 → take 33 (drop (33 * f) (bytesRead bits)) ≡ replicate 33 0
   bytes-lost h = sym (bytes-of-frame bits f h) ∙ tabulated-same (frameByte bits f) (λ i. 0) 33 (λ i _. byte-lost i)
 
+  -- and the 33 marks
   pub marks-lost : f < 98 → take 33 (drop (33 * f) (marksRead bits)) ≡ replicate 33 4
   marks-lost h = sym (marks-of-frame bits f h) ∙ tabulated-same (frameMark bits f) (λ i. 4) 33 (λ i _. mark-lost i)
 

@@ -26,20 +26,22 @@ row-part rule f h =
     ∙ sym (getD-drop (33 * f) all i 0) ∙ sym (getD-take 33 (drop (33 * f) all) i 0 b))
 
 module _ (bits : List ℕ) where
-  -- a Section has 3,234 bytes and as many marks
+  -- a Section has 3,234 bytes
   pub long-bytes : length (bytesRead bits) ≡ 3234
   unfolding bytesRead
   long-bytes = length-tabulated (byteRead bits) 0 3234
 
+  -- and as many marks
   pub long-marks : length (marksRead bits) ≡ 3234
   unfolding marksRead
   long-marks = length-tabulated (markRead bits) 0 3234
 
-  -- the 33 bytes of frame f, and their marks, stand from place 33 * f on
+  -- the 33 bytes of frame f stand from place 33 * f on
   pub bytes-of-frame : (f : ℕ) → f < 98 → tabulated (frameByte bits f) 0 33 ≡ take 33 (drop (33 * f) (bytesRead bits))
   unfolding bytesRead
   bytes-of-frame f h = row-part (frameByte bits) f h
 
+  -- and so do their marks
   pub marks-of-frame : (f : ℕ) → f < 98 → tabulated (frameMark bits f) 0 33 ≡ take 33 (drop (33 * f) (marksRead bits))
   unfolding marksRead
   marks-of-frame f h = row-part (frameMark bits) f h

@@ -1,7 +1,7 @@
 -- A possible state begins with small counts, and a tally of small counts has its DSV.
 -- Assumes nothing.
 use mathlib.Core.Path.{_≡_}
-use mathlib.Core.Bool.{true, _&&_}
+use mathlib.Core.Bool.{true}
 use Prim.Native.Nat.{ℕ, _*_, _≤_, _<_, _^_}
 use native.Mathlib.Omega.{arith}
 use borrow.Author.Tests.{lt-ltb}
@@ -9,11 +9,7 @@ use lib.Dec.{leb, leb→le}
 use lib.IntN.{ℤ, pos, negsuc, natAbs, subℕ}
 use Rattle.outcome.specs.Table.Entries.{and-left, and-right, of-true}
 use Rattle.choosing.specs.Traces.{Within}
-use Rattle.section_state.specs.Carried.{mostSections, sectionBits, levelRight, possible, above, below, levelNow, beginning, dsvThen}
-
--- the farthest that a DSV may be from 0: 57,624 times 450,000
-abbrev pub farthest : ℕ
-farthest = 25930800000
+use Rattle.section_state.specs.Carried.{mostSections, sectionBits, levelRight, possible, above, below, levelNow, beginning, dsvThen, farthest}
 
 possible-dsv : (dsv level : ℤ) (sections : ℕ) → possible dsv level sections ≡ true → natAbs dsv ≤ sectionBits * sections
 possible-dsv dsv level sections e =

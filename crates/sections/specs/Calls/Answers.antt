@@ -13,10 +13,11 @@ use Rattle.outcome.specs.Say.{Say, done, refused, demand}
 use Rattle.outcome.specs.Say.Refusals.{never}
 use Rattle.calls.specs.Step.{Step, isDone}
 use Rattle.calls.specs.Calls.{run}
+use Rattle.section_state.specs.Carried.{mostSections}
 use Rattle.section_writer.specs.declared.SectionWriter.{SectionWriter}
 use Rattle.section_writer.specs.State.{fresh, right}
 use Rattle.section_writer.specs.WriteSay.{afterSection, writeSay, written}
-use Rattle.sections.specs.Carried.{state-stays-right, fresh-right}
+use Rattle.sections.specs.Grown.StateStays.{state-stays-right, fresh-right}
 use Rattle.sections.specs.Calls.{Call, writes, sayAfter, says}
 use Rattle.sections.specs.Calls.Streams.{when-done, made, refused-stays}
 
@@ -34,7 +35,7 @@ counted s c r = go (isDone (writes s c .say)) refl
         let a = when-done s c e in
         let n = ap (λ (t : Step SectionWriter). t .next) (made s c (a .says-done)) in
         record {
-          state-right = ap right n ∙ state-stays-right s (c .part .frames) (c .part .control) r (ltb-true (s .sections) 450000 (a .not-full));
+          state-right = ap right n ∙ state-stays-right s (c .part .frames) (c .part .control) r (ltb-true (s .sections) mostSections (a .not-full));
           count = ap (λ (u : SectionWriter). u .sections) n ∙ rw e;
         }
     go false e = record { state-right = ap right (refused-stays s c e) ∙ r; count = ap (λ (u : SectionWriter). u .sections) (refused-stays s c e) ∙ rw e }
@@ -58,7 +59,7 @@ pub answers : (cs : List Call) → map (λ t. t .say) (run writes fresh cs) ≡ 
 answers cs = says-from cs fresh fresh-right
 
 not-nine : (n : ℕ) (c : Call) (vs : List ℕ) → refused 9 vs ≡ sayAfter n c → ⊥
-not-nine n c vs = go (eqb (length (c .part .frames)) 3136 && eqb (length (c .part .control)) 96) (eqb (length (c .out)) 7203) (ltb n 450000)
+not-nine n c vs = go (eqb (length (c .part .frames)) 3136 && eqb (length (c .part .control)) 96) (eqb (length (c .out)) 7203) (ltb n mostSections)
   where
     go : (p q t : Bool) → refused 9 vs ≡ demand p 1 (demand q 2 (demand t 7 (done []))) → ⊥
     go true true true e = never e

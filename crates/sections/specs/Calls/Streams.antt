@@ -2,7 +2,7 @@
 -- Assumes nothing.
 use mathlib.Core.Path.{_≡_, refl, sym, ap, ap₂, _∙_, subst}
 use mathlib.Core.Bool.{Bool, true, false, cond, _&&_, false≢true}
-use mathlib.Core.List.{List, [], _∷_, _++_}
+use mathlib.Core.List.{List, [], _∷_}
 use Prim.Native.Nat.{ℕ, _%_, _<_}
 use lib.Dec.{eqb, ltb}
 use lib.ListN.{length, drop}
@@ -12,9 +12,10 @@ use Rattle.calls.specs.Step.Kept.{refused-keeps}
 use Rattle.calls.specs.Calls.{run, doneOf, accepted}
 use Rattle.calls.specs.Calls.Refused.{done-alike}
 use Rattle.bits.specs.Bits.{pack, unpack}
-use Rattle.bits.specs.Packed.{unpack-append}
-use Rattle.words.specs.Runs.{runs}
+use Rattle.bits.specs.Bits.Packed.{unpack-append}
+use Rattle.words.specs.RunRule.{runs}
 use Rattle.merging.specs.Rule.{header, starts}
+use Rattle.section_state.specs.Carried.{mostSections}
 use Rattle.section_writer.specs.declared.SectionWriter.{SectionWriter}
 use Rattle.section_writer.specs.State.{right}
 use Rattle.section_writer.specs.WriteSay.{section, afterSection, writeSay, written}
@@ -26,15 +27,15 @@ use Rattle.sections.specs.Calls.{Call, writes, parts, sectionSteps, outg
 -- what holds of a call that is done
 pub record Accepted (s : SectionWriter) (c : Call) : Type 0 where
   pub says-done : writes s c .say ≡ done []
-  pub not-full : ltb (s .sections) 450000 ≡ true
+  pub not-full : ltb (s .sections) mostSections ≡ true
 
 -- a call is done only where its demands are met
 pub when-done : (s : SectionWriter) (c : Call) → isDone (writes s c .say) ≡ true → Accepted s c
 unfolding written writeSay
-when-done s c e = go (eqb (length (c .part .frames)) 3136 && eqb (length (c .part .control)) 96) (eqb (length (c .out)) 7203) (right s) (ltb (s .sections) 450000) refl refl refl refl e
+when-done s c e = go (eqb (length (c .part .frames)) 3136 && eqb (length (c .part .control)) 96) (eqb (length (c .out)) 7203) (right s) (ltb (s .sections) mostSections) refl refl refl refl e
   where
     go : (p q r t : Bool) → (eqb (length (c .part .frames)) 3136 && eqb (length (c .part .control)) 96) ≡ p → eqb (length (c .out)) 7203 ≡ q → right s ≡ r
-        → ltb (s .sections) 450000 ≡ t → isDone (demand p 1 (demand q 2 (demand r 9 (demand t 7 (done []))))) ≡ true → Accepted s c
+        → ltb (s .sections) mostSections ≡ t → isDone (demand p 1 (demand q 2 (demand r 9 (demand t 7 (done []))))) ≡ true → Accepted s c
     go true true true true a b k l u = record { says-done = rw (a, b, k, l); not-full = l }
     go true true true false a b k l u = absurd (false≢true u)
     go true true false t a b k l u = absurd (false≢true u)

@@ -8,12 +8,12 @@ use native.Mathlib.Omega.{arith}
 use lib.ListN.{length, getD, take, drop, length-append, length-drop}
 use lib.Seq.{take-append-le, drop-append-le, drop-append-add, take-length}
 use Rattle.bits.specs.Bits.{bitsOf, number}
-use Rattle.bits.specs.Numbers.{length-bits, number-bits}
-use Rattle.merging.specs.Chosen.{Written, dsvAfter, beforeWord, withWord}
+use Rattle.bits.specs.Bits.Numbers.{length-bits, number-bits}
+use Rattle.merging.specs.Chosen.{SoFar, dsvAfter, beforeWord, withWord}
 use Rattle.merging.specs.Rule.{allowed}
 use Rattle.section_reader.specs.Reading.{fieldAt}
 use Rattle.section_writer.specs.Section.{withWords}
-use Rattle.sections.specs.MergingBits.{word-three}
+use Rattle.merging.specs.Chosen.ThreeBits.{word-three}
 use Rattle.sections.specs.Grown.{Grown}
 use Rattle.sections.specs.Grown.Section.{grown-word, grown-words}
 
@@ -25,12 +25,12 @@ field-keep a b p n h =
     ∙ ap (number 0) (take-append-le n (drop p a) b (omega (arith, length-drop p a)))
 
 -- a field stays as it was when more is written after it
-pub keep : {k : ℕ} {w w′ : Written} (g : Grown k w w′) (p n : ℕ) → p + n ≤ length (w .bits) → fieldAt (w′ .bits) p n ≡ fieldAt (w .bits) p n
-keep {k} {w} {w′} g p n h = ap (λ (x : Written). fieldAt (x .bits) p n) (g .is) ∙ field-keep (w .bits) (g .bits) p n h
+pub keep : {k : ℕ} {w w′ : SoFar} (g : Grown k w w′) (p n : ℕ) → p + n ≤ length (w .bits) → fieldAt (w′ .bits) p n ≡ fieldAt (w .bits) p n
+keep {k} {w} {w′} g p n h = ap (λ (x : SoFar). fieldAt (x .bits) p n) (g .is) ∙ field-keep (w .bits) (g .bits) p n h
 
 -- how many bits there are then
-pub grown-long : {k : ℕ} {w w′ : Written} (g : Grown k w w′) → length (w′ .bits) ≡ length (w .bits) + k
-grown-long {k} {w} {w′} g = ap (λ (x : Written). length (x .bits)) (g .is) ∙ length-append (w .bits) (g .bits) ∙ ap (λ (n : ℕ). length (w .bits) + n) (g .long)
+pub grown-long : {k : ℕ} {w w′ : SoFar} (g : Grown k w w′) → length (w′ .bits) ≡ length (w .bits) + k
+grown-long {k} {w} {w′} g = ap (λ (x : SoFar). length (x .bits)) (g .is) ∙ length-append (w .bits) (g .bits) ∙ ap (λ (n : ℕ). length (w .bits) + n) (g .long)
 
 -- the last n bits are the number that was written
 pub field-last : (a m : List ℕ) (n v p : ℕ) → p ≡ length a + length m → v < 2 ^ n → fieldAt (a ++ (m ++ bitsOf n v)) p n ≡ v
@@ -49,7 +49,7 @@ field-last a m n v p e h =
 
 -- ---- the words
 
-word-field : (w : Written) (x : ℕ) → x < 2 ^ 14 → fieldAt (withWord w (bitsOf 14 x) .bits) (length (w .bits) + 3) 14 ≡ x
+word-field : (w : SoFar) (x : ℕ) → x < 2 ^ 14 → fieldAt (withWord w (bitsOf 14 x) .bits) (length (w .bits) + 3) 14 ≡ x
 unfolding withWord
 word-field w x h =
     let ok = allowed (w .bits) (bitsOf 14 x) in
@@ -57,7 +57,7 @@ word-field w x h =
     field-last (w .bits) (beforeWord ok dsv) 14 x (length (w .bits) + 3) (ap (λ (n : ℕ). length (w .bits) + n) (sym (word-three ok dsv))) h
 
 -- word i of some words, after its three Merging bits
-pub words-field : (ws : List ℕ) (w : Written) (i : ℕ) → ((j : ℕ) → j < length ws → getD ws j 0 < 2 ^ 14) → i < length ws
+pub words-field : (ws : List ℕ) (w : SoFar) (i : ℕ) → ((j : ℕ) → j < length ws → getD ws j 0 < 2 ^ 14) → i < length ws
     → fieldAt (withWords w ws .bits) (length (w .bits) + (17 * i + 3)) 14 ≡ getD ws i 0
 unfolding withWords
 words-field [] w i s h = absurd (not-suc-le-zero h)

@@ -11,8 +11,8 @@ use lib.ListN.{length}
 use Rattle.outcome.specs.Bytes.{Bytes}
 use Rattle.outcome.specs.Table.{tabulated}
 use Rattle.outcome.specs.Table.Entries.{tabulated-at}
-use Rattle.words.specs.Facts.{word-14}
-use Rattle.merging.specs.Chosen.{Written, withHeader, withTail}
+use Rattle.words.specs.Words.Facts.{word-14}
+use Rattle.merging.specs.Chosen.{SoFar, withHeader, withTail}
 use Rattle.section_writer.specs.declared.SectionWriter.{SectionWriter}
 use Rattle.section_reader.specs.Reading.{fieldAt, headless, wordRead}
 use Rattle.section_writer.specs.Section.{wordAt, frameWords, withWords, withFrame, withFrames, sectionAfter}
@@ -28,14 +28,14 @@ module _ (frames control : List ℕ) (hf : Bytes frames) (hc : Bytes control) wh
   word-small : (f i : ℕ) → wordAt frames control f i < 2 ^ 14
   word-small f i = at-word frames control hf hc (λ w _. w < 2 ^ 14) f i 0 0 (λ x. x) (λ _. omega arith) (λ _. omega arith) (λ x h. word-14 x h)
 
-  laid-keep : {k : ℕ} {w w′ : Written} (g : Grown k w w′) (p f : ℕ) → p + 588 ≤ length (w .bits) → Laid frames control (w .bits) p f → Laid frames control (w′ .bits) p f
+  laid-keep : {k : ℕ} {w w′ : SoFar} (g : Grown k w w′) (p f : ℕ) → p + 588 ≤ length (w .bits) → Laid frames control (w .bits) p f → Laid frames control (w′ .bits) p f
   laid-keep g p f h l =
       record {
         head = keep g p 24 (omega arith) ∙ l .head;
         words = λ i j. keep g (p + (27 + 17 * i)) 14 (omega arith) ∙ l .words i j;
       }
 
-  one-frame : (w : Written) (f : ℕ) → Laid frames control (withFrame w (frameWords frames control f) .bits) (length (w .bits)) f
+  one-frame : (w : SoFar) (f : ℕ) → Laid frames control (withFrame w (frameWords frames control f) .bits) (length (w .bits)) f
   unfolding withFrame frameWords withHeader
   one-frame w f =
       let h = withHeader w in
@@ -57,7 +57,7 @@ module _ (frames control : List ℕ) (hf : Bytes frames) (hc : Bytes control) wh
       none : (n : ℕ) → n ≡ n + 0
       none n = omega arith
 
-  all-frames : (n : ℕ) (w : Written) (f g : ℕ) → g < n → Laid frames control (withFrames w frames control f n .bits) (length (w .bits) + 588 * g) (f + g)
+  all-frames : (n : ℕ) (w : SoFar) (f g : ℕ) → g < n → Laid frames control (withFrames w frames control f n .bits) (length (w .bits) + 588 * g) (f + g)
   unfolding withFrames
   all-frames zero w f g h = absurd (not-suc-le-zero h)
   all-frames (suc n) w f zero h =

@@ -11,20 +11,21 @@ use lib.ListN.{length}
 use Rattle.outcome.specs.Bytes.{Bytes}
 use Rattle.outcome.specs.Table.Entries.{tabulated-same}
 use Rattle.bits.specs.Bits.{unpack, pack}
-use Rattle.bits.specs.Packed.{unpack-pack, length-pack}
+use Rattle.bits.specs.Bits.Packed.{unpack-pack, length-pack}
 use Rattle.words.specs.declared.Symbol.{Symbol}
 use Rattle.words.specs.declared.Symbol.the-variants.{Unknown}
-use Rattle.words.specs.Facts.{byte-of-word, sync0-unknown, sync1-unknown}
+use Rattle.words.specs.Words.Different.{byte-of-word, sync0-unknown, sync1-unknown}
 use Rattle.words.specs.Words.{wordOf, byteOf, sync0, sync1}
 use Rattle.bits.specs.Binary.{Binary}
+use Rattle.section_state.specs.Carried.{mostSections}
 use Rattle.section_writer.specs.declared.SectionWriter.{SectionWriter}
 use Rattle.section_reader.specs.ReadSay.{readSay, sectionRead}
 use Rattle.section_reader.specs.Reading.{byteFor, markFor, byteRead, markRead, bytesRead, marksRead}
-use Rattle.section_reader.specs.Reading.Standing.{byte-standing, mark-standing}
+use Rattle.section_reader.specs.Reading.WordByWord.{byte-standing, mark-standing}
 use Rattle.section_writer.specs.Section.{wordAt}
 use Rattle.section_writer.specs.State.{right}
 use Rattle.section_writer.specs.WriteSay.{section, written, writeSay}
-use Rattle.merging.specs.Chosen.{Written}
+use Rattle.merging.specs.Chosen.{SoFar}
 use Rattle.sections.specs.Grown.Section.{grown-section}
 use Rattle.sections.specs.Laid.{laidByte, laidMark, laidBytes, laidMarks, wholeOf}
 use Rattle.sections.specs.Laid.Words.{at-word}
@@ -71,7 +72,7 @@ module _ (frames control : List ℕ) (hf : Bytes frames) (hc : Bytes control) wh
     pub whole : unpack (pack 7203 (section s frames control .bits)) ≡ section s frames control .bits
     whole =
         let g = grown-section s frames control in
-        let e : section s frames control .bits ≡ g .bits = ap (λ (x : Written). x .bits) (g .is) in
+        let e : section s frames control .bits ≡ g .bits = ap (λ (x : SoFar). x .bits) (g .is) in
         unpack-pack 7203 (section s frames control .bits) (subst Binary (sym e) (g .binary)) (ap length e ∙ g .long)
 
     -- the bytes of a Section are read back whole
@@ -80,9 +81,9 @@ module _ (frames control : List ℕ) (hf : Bytes frames) (hc : Bytes control) wh
     packed-comes-back bytes marks p q = there-and-back (pack 7203 (section s frames control .bits)) bytes marks (length-pack 7203 (section s frames control .bits)) whole p q
 
     -- what `write` leaves in its buffer, where it is not refused, `read_section` turns back
-    pub written-comes-back : (out bytes marks : List ℕ) → length frames ≡ 3136 → length control ≡ 96 → length out ≡ 7203 → right s ≡ true → s .sections < 450000
+    pub written-comes-back : (out bytes marks : List ℕ) → length frames ≡ 3136 → length control ≡ 96 → length out ≡ 7203 → right s ≡ true → s .sections < mostSections
         → length bytes ≡ 3234 → length marks ≡ 3234
         → sectionRead (written s frames control out .out) bytes marks ≡ wholeOf frames control
     unfolding written writeSay
     written-comes-back out bytes marks f k l r n p q =
-        rw (eq-eqb (length frames) 3136 f, eq-eqb (length control) 96 k, eq-eqb (length out) 7203 l, r, lt-ltb (s .sections) 450000 n) (packed-comes-back bytes marks p q)
+        rw (eq-eqb (length frames) 3136 f, eq-eqb (length control) 96 k, eq-eqb (length out) 7203 l, r, lt-ltb (s .sections) mostSections n) (packed-comes-back bytes marks p q)

@@ -5,47 +5,47 @@ use mathlib.Core.Logic.{inl, inr}
 use mathlib.Core.List.{List, [], _∷_, _++_, append-assoc, append-nil}
 use Prim.Native.Nat.{ℕ, zero, suc}
 use Rattle.bits.specs.Bits.{bitsOf}
-use Rattle.merging.specs.Chosen.{Written, withWord, withHeader, withTail}
+use Rattle.merging.specs.Chosen.{SoFar, withWord, withHeader, withTail}
 use Rattle.merging.specs.Chosen.Behind.{Begun, behind, begun-header, begun-word, begun-tail, word-behind, header-behind, tail-behind}
 use Rattle.merging.specs.Rule.{header}
-use Rattle.merging.specs.Ties.{Tied}
+use Rattle.merging.specs.Automaton.{headed, StateOf}
 use Rattle.section_writer.specs.declared.SectionWriter.{SectionWriter}
 use Rattle.section_writer.specs.Section.{frameWords, withWords, withFrame, withFrames, sectionAfter}
 use Rattle.section_writer.specs.WriteSay.{section, afterSection}
-use Rattle.sections.specs.Runs.{Opens}
+use Rattle.sections.specs.RuleHolds.{Opens}
 use Rattle.sections.specs.Stream.{Part, streamOf, atStart, sectionAmong, streamAmong}
 use Rattle.sections.specs.Stream.Rules.{opens-none, one-section}
 
 -- ---- what a frame begins with stays before it
 
-begun-words : (ws : List ℕ) (w : Written) → Begun w → Begun (withWords w ws)
+begun-words : (ws : List ℕ) (w : SoFar) → Begun w → Begun (withWords w ws)
 unfolding withWords
 begun-words [] w b = b
 begun-words (x ∷ ws) w b = begun-words ws (withWord w (bitsOf 14 x)) (begun-word w (bitsOf 14 x) b)
 
-begun-frame : (w : Written) (ws : List ℕ) → Begun (withHeader w) → Begun (withHeader (withFrame w ws))
+begun-frame : (w : SoFar) (ws : List ℕ) → Begun (withHeader w) → Begun (withHeader (withFrame w ws))
 unfolding withFrame
 begun-frame w ws b = begun-header (withFrame w ws) (inr (begun-tail (withWords (withHeader w) ws) (begun-words ws (withHeader w) b)))
 
 -- ---- behind the bits `old` the same is written
 
-module _ (old : List ℕ) (follows : Tied (old ++ header) 12) where
-  words-behind : (ws : List ℕ) (w : Written) → Begun w → withWords (behind old w) ws ≡ behind old (withWords w ws)
+module _ (old : List ℕ) (follows : StateOf (old ++ header) headed) where
+  words-behind : (ws : List ℕ) (w : SoFar) → Begun w → withWords (behind old w) ws ≡ behind old (withWords w ws)
   unfolding withWords
   words-behind [] w b = refl
   words-behind (x ∷ ws) w b =
-      ap (λ (v : Written). withWords v ws) (word-behind old follows w b (bitsOf 14 x)) ∙ words-behind ws (withWord w (bitsOf 14 x)) (begun-word w (bitsOf 14 x) b)
+      ap (λ (v : SoFar). withWords v ws) (word-behind old follows w b (bitsOf 14 x)) ∙ words-behind ws (withWord w (bitsOf 14 x)) (begun-word w (bitsOf 14 x) b)
 
-  frames-behind : (n f : ℕ) (frames control : List ℕ) (w : Written) → Begun (withHeader w)
+  frames-behind : (n f : ℕ) (frames control : List ℕ) (w : SoFar) → Begun (withHeader w)
       → withFrames (behind old w) frames control f n ≡ behind old (withFrames w frames control f n)
   unfolding withFrames withFrame
   frames-behind zero f frames control w b = refl
   frames-behind (suc n) f frames control w b =
       let ws = frameWords frames control f in
       let v = withWords (withHeader w) ws in
-      ap (λ (u : Written). withFrames (withTail (withWords u ws)) frames control (suc f) n) (header-behind old w)
-      ∙ ap (λ (u : Written). withFrames (withTail u) frames control (suc f) n) (words-behind ws (withHeader w) b)
-      ∙ ap (λ (u : Written). withFrames u frames control (suc f) n) (tail-behind old follows v (begun-words ws (withHeader w) b))
+      ap (λ (u : SoFar). withFrames (withTail (withWords u ws)) frames control (suc f) n) (header-behind old w)
+      ∙ ap (λ (u : SoFar). withFrames (withTail u) frames control (suc f) n) (words-behind ws (withHeader w) b)
+      ∙ ap (λ (u : SoFar). withFrames u frames control (suc f) n) (tail-behind old follows v (begun-words ws (withHeader w) b))
       ∙ frames-behind n (suc f) frames control (withFrame w ws) (begun-frame w ws b)
 
   -- one Section
@@ -60,7 +60,7 @@ unfolding streamOf streamAmong afterSection
 sections-behind [] old s o = sym (append-nil old)
 sections-behind (p ∷ ps) old s o =
     let w = section s (p .frames) (p .control) in
-    ap (λ (v : Written). streamAmong (v .bits) (afterSection s v) ps) (section-behind old (o .tied) s p)
+    ap (λ (v : SoFar). streamAmong (v .bits) (afterSection s v) ps) (section-behind old (o .in-state) s p)
     ∙ sections-behind ps (old ++ w .bits) (afterSection s w) (one-section old s p o)
     ∙ append-assoc old (w .bits) (streamOf (afterSection s w) ps)
 

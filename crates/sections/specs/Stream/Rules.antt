@@ -11,21 +11,22 @@ use borrow.Author.Tests.{ne-eqb}
 use lib.Dec.{T, eqb}
 use lib.ListN.{length, drop}
 use Rattle.outcome.specs.Table.Entries.{and-left, and-right, of-true, true-of}
-use Rattle.words.specs.Runs.{runs}
-use Rattle.merging.specs.Places.{placed, placed-first}
+use Rattle.words.specs.RunRule.{runs}
+use Rattle.merging.specs.Places.{placed}
+use Rattle.merging.specs.Places.Kept.{placed-first}
 use Rattle.merging.specs.Rule.{header, starts}
-use Rattle.merging.specs.Ties.{tied-first}
+use Rattle.merging.specs.Automaton.Speaks.{state-first}
 use Rattle.section_writer.specs.declared.SectionWriter.{SectionWriter}
 use Rattle.section_writer.specs.Section.{sectionAfter}
 use Rattle.section_writer.specs.WriteSay.{section, afterSection}
-use Rattle.sections.specs.Runs.{Opens}
-use Rattle.sections.specs.Runs.Frame.{run-frames}
+use Rattle.sections.specs.RuleHolds.{Opens}
+use Rattle.sections.specs.RuleHolds.Frame.{run-frames}
 use Rattle.sections.specs.Stream.{Part, streamOf, atStart}
 
 -- before anything is written a Sync Header may come
 pub opens-none : Opens []
 unfolding placed
-opens-none = record { tied = tied-first; placed-then = placed-first; runs-so-far = refl; placed-so-far = refl }
+opens-none = record { in-state = state-first; placed-then = placed-first; runs-so-far = refl; placed-so-far = refl }
 
 -- and after each Section
 pub one-section : (old : List ℕ) (s : SectionWriter) (p : Part) → Opens old → Opens (old ++ section s (p .frames) (p .control) .bits)
@@ -33,7 +34,7 @@ unfolding section sectionAfter
 one-section old s p o =
     run-frames (p .frames) (p .control) (p .frames-bytes) (p .control-bytes) old 98 0
     (atStart [] s)
-    (record { own = tied-first; all = subst Opens (sym (append-nil old)) o }) .all
+    (record { own = state-first; all = subst Opens (sym (append-nil old)) o }) .all
 
 all-sections : (old : List ℕ) (s : SectionWriter) (ps : List Part) → Opens old → Opens (old ++ streamOf s ps)
 unfolding streamOf

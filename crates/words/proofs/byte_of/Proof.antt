@@ -4,7 +4,7 @@ use mathlib.Core.Path.{ap, _∙_}
 use mathlib.Core.List.{List}
 use Prim.Native.Nat.{ℕ}
 use Rattle.words.specs.LookUp.{lookedUp}
-use Rattle.words.specs.Facts.{looked-up}
+use Rattle.words.specs.LookUp.Finds.{looked-up}
 use borrow.Author.Needs.{needs}
 use Rattle.words.proofs.byte_of.Statement.{statement}
 use Rattle.words.proofs.byte_of.Tie as tie

@@ -2,7 +2,7 @@
 -- Assumes nothing.
 use mathlib.Core.Path.{_≡_, sym, _∙_, subst}
 use Rattle.choosing.specs.declared.trace.Choice.{Choice}
-use Rattle.choosing.specs.Candidates.{HeaderStands, betterOf}
+use Rattle.choosing.specs.Inner.Candidates.{HeaderStands, betterOf}
 use Rattle.choosing.specs.Choices.{beforeNextHeader}
 use Rattle.choosing.proofs.HeaderCandidates.{withOne, withZeros, header-chosen}
 use borrow.Author.Needs.{needs}

@@ -3,8 +3,8 @@
 use mathlib.Core.Path.{refl}
 use Rattle.words.specs.Words.{words}
 use Rattle.merging.specs.Automaton.{step}
-use Rattle.choosing.specs.Profiles.{rows}
-use Rattle.choosing.specs.Symbols.{symbols}
+use Rattle.choosing.specs.Inner.Profiles.{rows}
+use Rattle.words.specs.Symbols.{symbols}
 use Rattle.choosing.proofs.profile.profile_rows.Statement.{statement}
 use Rattle.choosing.proofs.profile.profile_rows.Tie as tie
 

@@ -1,7 +1,7 @@
 -- `choosing::stroke::spend` meets its contract: `spent` goes by the same tests.
 -- Assumes nothing.
 use borrow.Author.Tests.{eq-eqb, ne-eqb}
-use Rattle.choosing.specs.Strokes.{spent}
+use Rattle.choosing.specs.Inner.Strokes.{spent}
 use borrow.Author.Needs.{needs}
 use Rattle.choosing.proofs.stroke.spend.Statement.{statement}
 use Rattle.choosing.proofs.stroke.spend.Tie as tie

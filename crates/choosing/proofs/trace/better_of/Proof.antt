@@ -2,7 +2,7 @@
 -- Assumes nothing.
 use borrow.Author.Needs.{needs}
 use borrow.Author.Tests.{eq-eqb, ne-eqb, le-ltb, lt-ltb}
-use Rattle.choosing.specs.Candidates.{betterOf}
+use Rattle.choosing.specs.Inner.Candidates.{betterOf}
 use Rattle.choosing.proofs.trace.better_of.Statement.{statement}
 use Rattle.choosing.proofs.trace.better_of.Tie as tie
 

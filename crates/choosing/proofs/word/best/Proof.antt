@@ -2,7 +2,7 @@
 -- Assumes nothing.
 use mathlib.Core.Path.{ap, _∙_}
 use Rattle.choosing.specs.declared.trace.Choice.{Choice}
-use Rattle.choosing.specs.Candidates.{betterOf}
+use Rattle.choosing.specs.Inner.Candidates.{betterOf}
 use Rattle.choosing.proofs.WordCandidates.{word-chosen}
 use borrow.Author.Needs.{needs}
 use Rattle.choosing.proofs.word.best.Statement.{statement}

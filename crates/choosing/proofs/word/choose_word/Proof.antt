@@ -8,7 +8,7 @@ use Rattle.choosing.specs.declared.profile.Profile.{Profile}
 use Rattle.choosing.specs.Choices.{chosenWord, wordChoice}
 use Rattle.choosing.specs.Traces.{fits}
 use Rattle.choosing.specs.Traces.Room.{fits-fit}
-use Rattle.choosing.proofs.RightProfiles.{profile-fits}
+use Rattle.choosing.proofs.ProfilesHold.{profile-fits}
 use borrow.Author.Needs.{needs}
 use Rattle.choosing.proofs.word.choose_word.Statement.{statement}
 use Rattle.choosing.proofs.word.choose_word.Tie as tie

@@ -1,7 +1,7 @@
 -- `choosing::word::enter` meets its contract, by its tests.
 -- Assumes nothing.
 use borrow.Author.Tests.{eq-eqb, ne-eqb, lt-ltb, le-ltb}
-use Rattle.choosing.specs.States.{entered}
+use Rattle.choosing.specs.Inner.States.{entered}
 use borrow.Author.Needs.{needs}
 use Rattle.choosing.proofs.word.enter.Statement.{statement}
 use Rattle.choosing.proofs.word.enter.Tie as tie

@@ -4,9 +4,9 @@ use mathlib.Core.Path.{sym, ap, _∙_, subst}
 use Prim.Native.Nat.{ℕ, _+_, _-_, _*_}
 use Rattle.bits.specs.Bits.{bitsOf}
 use Rattle.choosing.specs.declared.trace.Trace.{Trace}
-use Rattle.choosing.specs.Candidates.{oneAfter, WordStands}
-use Rattle.choosing.specs.States.{afterWord}
-use Rattle.choosing.specs.Strokes.{spent}
+use Rattle.choosing.specs.Inner.Candidates.{oneAfter, WordStands}
+use Rattle.choosing.specs.Inner.States.{afterWord}
+use Rattle.choosing.specs.Inner.Strokes.{spent}
 use Rattle.choosing.proofs.WordCandidates.{one-stands}
 use borrow.Author.Needs.{needs}
 use Rattle.choosing.proofs.word.with_one.Statement.{statement}

@@ -5,8 +5,8 @@ use Prim.Native.Nat.{ℕ}
 use Rattle.bits.specs.Bits.{bitsOf}
 use Rattle.merging.specs.Chosen.{m000}
 use Rattle.choosing.specs.declared.trace.Trace.{Trace}
-use Rattle.choosing.specs.Candidates.{WordStands}
-use Rattle.choosing.specs.States.{afterWord}
+use Rattle.choosing.specs.Inner.Candidates.{WordStands}
+use Rattle.choosing.specs.Inner.States.{afterWord}
 use Rattle.choosing.proofs.WordCandidates.{zeros-stand}
 use borrow.Author.Needs.{needs}
 use Rattle.choosing.proofs.word.without_one.Statement.{statement}

@@ -4,7 +4,7 @@ use mathlib.Core.Path.{sym, ap, _∙_}
 use Prim.Native.Nat.{ℕ, _-_}
 use native.Mathlib.Omega.{arith}
 use borrow.Author.Needs.{needs}
-use lib.ListN.{replicate, length-replicate, getD-replicate}
+use lib.ListN.{replicate, getD-replicate}
 use Rattle.outcome.specs.Buffer.{Filling}
 use Rattle.outcome.specs.Buffer.Filled.{filling-none, filling-long, filling-more, filling-all}
 use Rattle.section_reader.proofs.reader.lose_frame.Statement.{statement}

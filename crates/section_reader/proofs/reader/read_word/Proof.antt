@@ -4,7 +4,7 @@ use mathlib.Core.Path.{_≡_, refl, sym, ap, _∙_}
 use mathlib.Core.List.{List}
 use Prim.Native.Nat.{ℕ}
 use Rattle.words.specs.declared.Symbol.the-variants.{Unknown}
-use Rattle.words.specs.Facts.{looked-up}
+use Rattle.words.specs.LookUp.Finds.{looked-up}
 use Rattle.words.specs.LookUp.{lookedUp}
 use Rattle.words.specs.Words.{byteOf}
 use borrow.Author.Needs.{needs}

@@ -3,7 +3,7 @@
 use mathlib.Core.Path.{_≡_, refl}
 use Prim.Native.Nat.{_-_}
 use native.Mathlib.Omega.{arith}
-use lib.ListN.{length, getD}
+use lib.ListN.{length}
 use Rattle.section_writer.proofs.WordLoop.{WordsWritten, written-none, written-more, written-all}
 use borrow.Author.Needs.{needs}
 use Rattle.section_writer.proofs.frame.write_words.Statement.{statement}

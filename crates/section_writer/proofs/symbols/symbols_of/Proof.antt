@@ -4,7 +4,7 @@ use Prim.Native.Nat.{_-_, _<_, _≤_}
 use mathlib.Core.Path.{_≡_, refl, _∙_}
 use native.Mathlib.Omega.{arith}
 use lib.ListN.{length, length-set}
-use Rattle.section_writer.specs.FrameSteps.{SymbolsFound}
+use Rattle.section_writer.specs.Inner.FrameSteps.{SymbolsFound}
 use Rattle.section_writer.proofs.FoundSymbols.{found-more}
 use borrow.Author.Needs.{needs}
 use Rattle.section_writer.proofs.symbols.symbols_of.Statement.{statement}

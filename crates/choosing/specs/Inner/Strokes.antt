@@ -1,0 +1,15 @@
+-- Some bits at a stroke: `same` of them at the level before them and `other` at the other one; the level flips if `odd` is not 0.
+-- Assumes nothing.
+use mathlib.Core.Bool.{cond}
+use Prim.Native.Nat.{ℕ, _+_, _-_}
+use lib.Dec.{eqb}
+use Rattle.choosing.specs.declared.Tally.{Tally}
+
+-- the tally after them
+unfoldable pub spent : Tally → ℕ → ℕ → ℕ → Tally
+spent t same other odd =
+    record {
+      level = cond (eqb odd 0) (t .level) (1 - t .level);
+      plus = t .plus + cond (eqb (t .level) 1) same other;
+      minus = t .minus + cond (eqb (t .level) 1) other same;
+    }
