@@ -1,6 +1,6 @@
 # `make` proves the crates and builds the programs; `make run` prints a report; `make test` is the gate; `make bench` times the proved code;
-# `make times` says how long each crate takes to prove.
-.PHONY: all run test bench times
+# `make times` says how long each crate takes to prove; `make believed` lists the definitions that a reader must believe.
+.PHONY: all run test bench times believed
 
 # the image whose report `make run` prints
 IMAGE ?= crates/report/stdin
@@ -22,3 +22,6 @@ bench:
 
 times:
 	@tools/times
+
+believed:
+	@tools/believed
