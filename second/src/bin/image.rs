@@ -2,7 +2,7 @@
 //! (`many`).
 
 use second::random::Random;
-use second::sector::write;
+use second::sector::{empty, write};
 use std::io::Write;
 
 /// A number below 100 as two decimal digits in a byte.
@@ -27,11 +27,7 @@ fn lead_in(random: &mut Random, index: usize) -> Vec<u8> {
 }
 
 fn sector_at(random: &mut Random, mode: u8, address: [u8; 3]) -> Vec<u8> {
-    let data = match mode {
-        0 => vec![],
-        1 => random.bytes(2048),
-        _ => random.bytes(2336),
-    };
+    let data = random.bytes(if mode == 1 { 2048 } else { 2336 });
     let mut out = vec![0; 2352];
     write(mode, address, &data, &mut out).expect("a Sector that can be written");
     out
@@ -51,7 +47,7 @@ fn mixed(random: &mut Random) -> Vec<u8> {
             4 => s[0] = 77,
             5 => s[2248..].iter_mut().for_each(|b| *b ^= 0x55),
             6 => (0..86).for_each(|k| s[12 + 86 * (k % 26) + k] ^= 0x80),
-            7 => s = sector(random, 0, index),
+            7 => s = empty(address(index)),
             8 => s = sector(random, 2, index),
             9 => s[15] = 2,
             10 => s = lead_in(random, index),
