@@ -45,9 +45,9 @@ told WrongFiller = refl
 pub says-one : (a b : Judged) → sayOf a ≡ sayOf b → a ≡ b
 says-one a b e = sym (told a) ∙ ap answer e ∙ told b
 
--- a Sector that passes with two modes has one
-pub mode-told : (m n : ℕ) (t u : HeaderTime) → passing m t ≡ passing n u → m ≡ n
-mode-told m n t u e = let same = says-one (Passed m t) (Passed n u) e in cc
+-- what comes back with a Sector that passes tells its mode and its address
+pub passing-one : (m n : ℕ) (t u : HeaderTime) → passing m t ≡ passing n u → (m ≡ n) × (t ≡ u)
+passing-one m n t u e = let same = says-one (Passed m t) (Passed n u) e in (cc, cc)
 
 -- two answers that the promise of `judge` allows coincide
 pub judged-one : (s : List ℕ) (a b : Judged) → sayOf a ≡ judging s → sayOf b ≡ judging s → a ≡ b

@@ -11,7 +11,7 @@ use Rattle.sector.specs.Layout.{timeOf, modeOf}
 use Rattle.sector.specs.Correct.{CorrectMode01}
 use Rattle.judge.specs.Judging.{passing, judging}
 use Rattle.judge.specs.Judging.Exact.{judge-sound, judge-complete}
-use Rattle.judge.specs.Judging.Told.{mode-told}
+use Rattle.judge.specs.Judging.Told.{passing-one}
 use Rattle.writer.specs.Write.{Writes}
 use Rattle.writer.specs.Write.Judged.{written-asked}
 use Rattle.repair.specs.Repair.{Repairs}
@@ -25,7 +25,7 @@ judged-passes r c = judge-complete r (c .correct) ∙ ap (λ (m : ℕ). passing 
 pub passes-judged : (r : List ℕ) (t : HeaderTime) → Bytes r → judging r ≡ passing 1 t → CorrectMode01 r
 passes-judged r t h e =
     let g = judge-sound r h e in
-    record { correct = g .0; mode = sym (mode-told 1 (modeOf r) t (timeOf r) (g .1)) }
+    record { correct = g .0; mode = sym (passing-one 1 (modeOf r) t (timeOf r) (g .1) .0) }
 
 -- ---- so a changed count of 0 is exactly what judging certifies
 

@@ -9,7 +9,7 @@ use Rattle.outcome.specs.Say.{done}
 use Rattle.address.specs.declared.HeaderTime.{HeaderTime}
 use Rattle.judge.specs.Judging.{passing, judging}
 use Rattle.judge.specs.Judging.Exact.{judge-complete}
-use Rattle.judge.specs.Judging.Told.{mode-told}
+use Rattle.judge.specs.Judging.Told.{passing-one}
 use Rattle.writer.specs.Write.{Asked, says, Writes, writes}
 use Rattle.writer.specs.Write.Modes.{one-or-two, done-written}
 
@@ -24,6 +24,6 @@ module _ {mode : ℕ} {time : HeaderTime} {user old : List ℕ} where
   -- nothing that the writer makes is judged to be of mode 00
   pub never-mode-00 : {s : List ℕ} → Writes mode time user old (done []) s → (at : HeaderTime) → judging s ≡ passing 0 at → ⊥
   never-mode-00 w at j =
-      let m : mode ≡ 0 = mode-told mode 0 time at (sym (written-passes w) ∙ j) in
+      let m : mode ≡ 0 = passing-one mode 0 time at (sym (written-passes w) ∙ j) .0 in
       ⊎-elim (λ (e : mode ≡ 1). omega arith) (λ (e : mode ≡ 2). omega arith)
       (one-or-two mode (done-written mode time user old (written-asked w .0)))
