@@ -1,8 +1,9 @@
-# `make` proves the crates and builds the programs; `make run` prints a report; `make test` is the gate; `make bench` times the proved code;
-# `make times` says how long each crate takes to prove; `make believed` lists the definitions that a reader must believe.
-.PHONY: all run test bench times believed
+# `make` proves the crates and builds the programs; `make run` prints a report, `make empties` the addresses of empty Sectors; `make test` is
+# the gate; `make bench` times the proved code; `make times` says how long each crate takes to prove; `make believed` lists the definitions
+# that a reader must believe.
+.PHONY: all run empties test bench times believed
 
-# the image whose report `make run` prints
+# the image that `make run` and `make empties` read
 IMAGE ?= crates/report/stdin
 
 all:
@@ -11,6 +12,10 @@ all:
 run:
 	@tools/prove report
 	@target/bin/report < "$(IMAGE)"
+
+empties:
+	@tools/prove empties
+	@target/bin/empties < "$(IMAGE)"
 
 test:
 	@tools/gate

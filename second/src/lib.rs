@@ -4,6 +4,7 @@ pub mod channel;
 pub mod circ;
 pub mod codeword;
 pub mod edc;
+pub mod empties;
 pub mod field;
 pub mod proved;
 pub mod random;

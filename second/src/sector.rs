@@ -1,4 +1,4 @@
-//! ECMA-130, clause 14 and Annex A; document 01, A Sector, P and Q: layout, writing and judging.
+//! ECMA-130, clause 14 and Annex A; document 01, A Sector, P and Q; document 02, 13: layout, writing and judging.
 
 mod repair;
 
@@ -12,10 +12,9 @@ pub const SYNC: [u8; 12] = [0, 255, 255, 255, 255, 255, 255, 255, 255, 255, 255,
 pub const P_CODEWORDS: usize = 86;
 pub const Q_CODEWORDS: usize = 52;
 
-/// Bytes of user data, where the mode is one of the three.
+/// Bytes of user data, where the mode is one of the two that are written.
 pub fn data_length(mode: u8) -> Option<usize> {
     match mode {
-        0 => Some(0),
         1 => Some(2048),
         2 => Some(2336),
         _ => None,
@@ -105,6 +104,14 @@ pub fn write(mode: u8, address: [u8; 3], data: &[u8], out: &mut [u8]) -> Result<
     Ok(())
 }
 
+/// A Sector of Mode 00, as old discs have them.
+pub fn empty(address: [u8; 3]) -> Vec<u8> {
+    let mut sector = vec![0; LENGTH];
+    sector[..12].copy_from_slice(&SYNC);
+    sector[12..15].copy_from_slice(&address);
+    sector
+}
+
 /// What a Sector that passes is answered with.
 #[derive(Clone, Copy, Debug, PartialEq, Eq)]
 pub struct Passed {
@@ -121,7 +128,7 @@ pub fn judge(sector: &[u8]) -> Result<Passed, Refusal> {
         return Err(WrongSync);
     }
     let mode = sector[15];
-    if data_length(mode).is_none() {
+    if mode > 2 {
         return Err(WrongMode);
     }
     let address = [sector[12], sector[13], sector[14]];

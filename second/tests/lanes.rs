@@ -85,11 +85,11 @@ fn each(bytes: &[u8], step: fn(&[u8], &mut [u8]) -> u8) -> Vec<u8> {
     all
 }
 
-/// Sectors of all modes, and the Sections that they become, with two Sections of zero frames behind them.
+/// Sectors of both modes, and the Sections that they become, with two Sections of zero frames behind them.
 fn down(lanes: &Lanes, random: &mut Random) -> (Vec<u8>, Vec<u8>) {
     let mut sectors = vec![0; SECTORS * LENGTH];
     for (n, out) in sectors.chunks_mut(LENGTH).enumerate() {
-        let mode = (n % 3) as u8;
+        let mode = 1 + (n % 2) as u8;
         let data = random.bytes(data_length(mode).unwrap());
         assert_eq!((lanes.write)(mode, random.address(), &data, out), 0);
     }

@@ -2,76 +2,30 @@
 //! what the proved program prints. What the proofs leave to a run is run here: that the program takes what the C library reads for what it
 //! is, and says on standard error what failed.
 
+mod program;
+
+use program::{at, fed, fed_slowly, program, stored, text};
 use second::report::report;
 use second::sector::{write, LENGTH};
 use std::fs::{self, File, OpenOptions};
-use std::io::Write;
-use std::path::{Path, PathBuf};
-use std::process::{Child, Command, Output, Stdio};
-use std::thread;
-use std::time::Duration;
-
-/// A path from the second program's folder.
-fn at(path: &str) -> PathBuf {
-    Path::new(env!("CARGO_MANIFEST_DIR")).join(path)
-}
-
-/// The proved program, which `rt check report` builds.
-fn program() -> Command {
-    let path = at("../target/bin/report");
-    assert!(path.exists(), "{} is missing: run `rt check report`", path.display());
-    let mut program = Command::new(path);
-    program.stdout(Stdio::piped()).stderr(Stdio::piped());
-    program
-}
-
-/// What the program prints while `feed` hands it its input through a pipe.
-fn fed(feed: impl FnOnce(&mut dyn Write) + Send + 'static) -> Output {
-    let mut child: Child = program().stdin(Stdio::piped()).spawn().expect("the program starts");
-    let mut pipe = child.stdin.take().expect("a pipe");
-    let feeder = thread::spawn(move || feed(&mut pipe));
-    let output = child.wait_with_output().expect("the program ends");
-    feeder.join().expect("all of the input is taken");
-    output
-}
-
-fn text(bytes: &[u8]) -> &str {
-    std::str::from_utf8(bytes).expect("a report is text")
-}
+use std::process::Stdio;
 
 /// Thirteen Sectors of every fate with a tail; nothing; document 01's 4,709 zeros; 1,003 Sectors.
 #[test]
 fn stored_reports_are_those_of_both_programs() {
-    for name in
+    for folder in
         ["../crates/report", "tests/reports/empty", "tests/reports/zeros", "tests/reports/many"]
     {
-        let input = at(name).join("stdin");
-        let stored = fs::read_to_string(at(name).join("stdout")).expect("stored output");
-        assert!(report(&fs::read(&input).expect("stored input")) == stored, "{name}");
-        let input = File::open(&input).expect("stored input");
-        let output = program().stdin(input).output().expect("the program runs");
-        assert!(text(&output.stdout) == stored, "{name}");
-        assert_eq!(text(&output.stderr), "", "{name}");
+        let output = stored("report", folder, report);
+        assert_eq!(text(&output.stderr), "", "{folder}");
     }
 }
 
-/// The program waits for each chunk, so most of its reads bring less than it asks for.
 #[test]
 fn short_reads_change_nothing() {
     let image = fs::read(at("../crates/report/stdin")).expect("stored input");
     let expected = report(&image);
-    let output = fed(move |pipe| {
-        let mut rest = image.as_slice();
-        for size in [1, 2351, 7, 2353, 588, 4703, 24].into_iter().cycle() {
-            let (chunk, after) = rest.split_at(size.min(rest.len()));
-            pipe.write_all(chunk).expect("the program reads on");
-            thread::sleep(Duration::from_millis(3));
-            rest = after;
-            if rest.is_empty() {
-                break;
-            }
-        }
-    });
+    let output = fed_slowly("report", image);
     assert_eq!(text(&output.stdout), expected);
     assert_eq!(text(&output.stderr), "");
 }
@@ -79,7 +33,7 @@ fn short_reads_change_nothing() {
 #[test]
 fn a_folder_cannot_be_read() {
     let folder = File::open(at("../crates")).expect("a folder opens");
-    let output = program().stdin(folder).output().expect("the program runs");
+    let output = program("report").stdin(folder).output().expect("the program runs");
     assert_eq!(text(&output.stdout), "cd sectors 1\n");
     assert_eq!(text(&output.stderr), "report: standard input could not be read\n");
 }
@@ -87,7 +41,8 @@ fn a_folder_cannot_be_read() {
 #[test]
 fn a_full_device_cannot_be_written() {
     let full = OpenOptions::new().write(true).open("/dev/full").expect("the device opens");
-    let output = program().stdin(Stdio::null()).stdout(full).output().expect("the program runs");
+    let output =
+        program("report").stdin(Stdio::null()).stdout(full).output().expect("the program runs");
     assert_eq!(text(&output.stderr), "report: standard output could not be written\n");
 }
 
@@ -111,7 +66,7 @@ fn every_sector_of_400_000_has_its_line() {
         .take(100)
         .map(|line| line.split_once(' ').expect("an index").1.to_string())
         .collect();
-    let output = fed(move |pipe| {
+    let output = fed("report", move |pipe| {
         for _ in 0..4_000 {
             pipe.write_all(&hundred).expect("the program reads on");
         }

@@ -4,19 +4,20 @@ use second::channel::{read_section, SectionWriter, CONTROL_BYTES, PACKED, READ_B
 use second::circ::{CircReader, CircWriter};
 use second::random::Random;
 use second::scrambling::{cut, join, scramble};
-use second::sector::{data_length, judge, repair, write, Passed, LENGTH};
+use second::sector::{data_length, empty, judge, repair, write, Passed, LENGTH};
 
 const SECTORS: usize = 6;
 
-/// Sectors of all three modes in turn, and what judging must say of them.
+/// Sectors of all three modes in turn, those of Mode 00 from an old disc, and what judging must say of them.
 fn sectors(random: &mut Random) -> (Vec<u8>, Vec<Passed>) {
     let (mut all, mut passed) = (Vec::new(), Vec::new());
     for n in 0..SECTORS {
         let mode = (n % 3) as u8;
         let address = random.address();
-        let mut out = vec![0; LENGTH];
-        let data = random.bytes(data_length(mode).unwrap());
-        write(mode, address, &data, &mut out).unwrap();
+        let mut out = empty(address);
+        if let Some(length) = data_length(mode) {
+            write(mode, address, &random.bytes(length), &mut out).unwrap();
+        }
         all.extend(out);
         passed.push(Passed { mode, address });
     }

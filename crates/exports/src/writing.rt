@@ -13,7 +13,7 @@ fn tell(a: Written) -> u8
         Written::Done => 0,
         Written::WrongIncoming => 1,
         Written::WrongOutgoing => 2,
-        Written::UnknownMode => 3,
+        Written::UnwrittenMode => 3,
         Written::WrongAddress => 4,
     }
 }

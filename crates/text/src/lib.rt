@@ -4,6 +4,7 @@ mod lines;
 ghost use mathlib.Core.Path.{_≡_};
 ghost use Rattle.text.specs.Counting.{oneMore, noneCounted, countedWith};
 use address::HeaderTime;
+pub use lines::address_line;
 pub use lines::fate_line;
 pub use lines::first_line;
 pub use lines::last_line;

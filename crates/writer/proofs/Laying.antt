@@ -1,10 +1,12 @@
 -- What a Sector that is laid out has of the Sector that is asked for.
 -- Assumes nothing.
 use mathlib.Core.Path.{_≡_, refl, sym, ap, _∙_, subst}
-use mathlib.Core.Bool.{true}
-use mathlib.Core.List.{List, [], _∷_, _++_}
-use Prim.Native.Nat.{ℕ, zero, suc, _+_, _-_, _<_, _≤_}
+use mathlib.Core.Bool.{Bool, true, false, cond}
+use mathlib.Core.List.{List, _++_}
+use mathlib.Core.Logic.{⊎-elim}
+use Prim.Native.Nat.{ℕ, _+_, _-_, _<_, _≤_}
 use native.Mathlib.Omega.{arith}
+use lib.Dec.{eqb}
 use lib.ListN.{length, getD, take, drop, length-append}
 use lib.Seq.{getD-take, take-take, take-at, drop-at}
 use Rattle.outcome.specs.Bytes.{Bytes}
@@ -13,8 +15,9 @@ use Rattle.address.specs.Address.{inRange}
 use Rattle.address.specs.declared.HeaderTime.{HeaderTime}
 use Rattle.sector.specs.Layout.{sync, bytesFrom, timeOf, modeOf, userLength, zeros}
 use Rattle.sector.specs.Layout.Zeros.{length-zeros}
-use Rattle.sector.specs.Correct.{Empty, Protected}
-use Rattle.writer.specs.Write.{Asked}
+use Rattle.sector.specs.Correct.{Protected}
+use Rattle.writer.specs.Write.{Asked, isWritten}
+use Rattle.writer.specs.Write.Modes.{one-or-two}
 use Rattle.writer.specs.Inner.Laid.{front, laid}
 
 -- s begins with the front
@@ -39,16 +42,20 @@ fronted-same mode time n s t l e f =
     at : (i : ℕ) → i < 16 → getD s i 0 ≡ getD t i 0
     at i h = sym (getD-take n s i 0 (omega arith)) ∙ ap (λ (w : List ℕ). getD w i 0) e ∙ getD-take n t i 0 (omega arith)
 
-module _ (mode : ℕ) (time : HeaderTime) (user : List ℕ) (known : mode ≤ 2) (fits : length user ≡ userLength mode) (range : inRange time ≡ true) where
+module _ (mode : ℕ) (time : HeaderTime) (user : List ℕ) (h : isWritten mode ≡ true) (fits : length user ≡ userLength mode) (range : inRange time ≡ true) where
+  -- Mode 01 or 02
+  known : (0 < mode) × (mode ≤ 2)
+  known = ⊎-elim (λ (e : mode ≡ 1). (omega arith, omega arith)) (λ (e : mode ≡ 2). (omega arith, omega arith)) (one-or-two mode h)
+
   -- a Sector with this front whose rules and user data are right is the one that is asked for
-  pub asked : (s : List ℕ) → Fronted mode time s → length s ≡ 2352 → Bytes s → (mode ≡ 0 → Empty s) → (mode ≡ 1 → Protected s)
-      → bytesFrom 16 (userLength mode) s ≡ user → Asked mode time user s
-  asked s f l b e p u =
+  pub asked : (s : List ℕ) → Fronted mode time s → length s ≡ 2352 → Bytes s → (mode ≡ 1 → Protected s) → bytesFrom 16 (userLength mode) s ≡ user
+      → Asked mode time user s
+  asked s f l b p u =
       record {
         correct = record {
           head = record { long = l; bytes = b; synced = f .synced; addressed = ap inRange (f .has-time) ∙ range };
-          known = subst (λ (m : ℕ). m ≤ 2) (sym (f .has-mode)) known;
-          mode00 = λ z. e (sym (f .has-mode) ∙ z);
+          known = subst (λ (m : ℕ). m ≤ 2) (sym (f .has-mode)) (known .1);
+          mode00 = λ z. absurd (omega (arith, known .0, sym (f .has-mode) ∙ z));
           mode01 = λ z. p (sym (f .has-mode) ∙ z);
         };
         has-mode = f .has-mode;
@@ -61,13 +68,11 @@ module _ (mode : ℕ) (time : HeaderTime) (user : List ℕ) (known : mode ≤ 2)
 
   -- a mode has room for its user data
   pub room : length user ≤ 2336
-  room = subst (λ (n : ℕ). n ≤ 2336) (sym fits) (at mode known)
+  room = subst (λ (n : ℕ). n ≤ 2336) (sym fits) (at (eqb mode 1))
     where
-      at : (m : ℕ) → m ≤ 2 → userLength m ≤ 2336
-      at zero h = omega arith
-      at (suc zero) h = omega arith
-      at (suc (suc zero)) h = omega arith
-      at (suc (suc (suc m))) h = absurd (omega arith)
+      at : (b : Bool) → cond b 2048 2336 ≤ 2336
+      at true = omega arith
+      at false = omega arith
 
   after-front : drop 16 (laid mode time user) ≡ user ++ zeros (2336 - length user)
   after-front = drop-at (front mode time) (user ++ zeros (2336 - length user)) 16 length-front
@@ -87,24 +92,17 @@ module _ (mode : ℕ) (time : HeaderTime) (user : List ℕ) (known : mode ≤ 2)
   pub laid-user : bytesFrom 16 (userLength mode) (laid mode time user) ≡ user
   laid-user = ap (take (userLength mode)) after-front ∙ take-at user (zeros (2336 - length user)) (userLength mode) fits
 
-  -- Modes 00 and 02 have nothing more
+  -- Mode 02 has nothing more
   pub asked-plain : (mode ≡ 1 → ⊥) → Bytes (laid mode time user) → Asked mode time user (laid mode time user)
   asked-plain n b =
-      asked (laid mode time user) (fronted mode time (user ++ zeros (2336 - length user))) length-laid b empty (λ e. absurd (n e)) laid-user
-    where
-      none : (w : List ℕ) → length w ≡ 0 → w ++ zeros (2336 - length w) ≡ zeros 2336
-      none [] e = refl
-      none (x ∷ w) e = absurd (omega arith)
-
-      empty : mode ≡ 0 → Empty (laid mode time user)
-      empty e = after-front ∙ none user (fits ∙ ap userLength e)
+      asked (laid mode time user) (fronted mode time (user ++ zeros (2336 - length user))) length-laid b (λ e. absurd (n e)) laid-user
 
   -- in Mode 01 the bytes from 2,064 on are put in
   pub asked-protected : (s : List ℕ) → mode ≡ 1 → length s ≡ 2352 → Bytes s → take 2064 s ≡ take 2064 (laid mode time user) → Protected s
       → Asked mode time user s
   asked-protected s e l b same p =
       asked s (fronted-same mode time 2064 s (laid mode time user) (omega arith) same (fronted mode time (user ++ zeros (2336 - length user)))) l b
-      (λ z. absurd (omega arith)) (λ _. p) (user-data (ap userLength e))
+      (λ _. p) (user-data (ap userLength e))
     where
       user-data : userLength mode ≡ 2048 → bytesFrom 16 (userLength mode) s ≡ user
       user-data q =

@@ -14,14 +14,14 @@ use Rattle.writer.proofs.Protects.{asked-mode01}
 
 module _ (mode : ℕ) (time : HeaderTime) (user s : List ℕ) (g : Askable mode time user) where
   pub has-room : length user ≤ 2336
-  has-room = room mode time user (g .known) (g .fits) (g .range)
+  has-room = room mode time user (g .mode-written) (g .fits) (g .range)
 
   pub makes-plain : (mode ≡ 1 → ⊥) → s ≡ laid mode time user → Makes mode time user s
   makes-plain n e =
       subst (λ (x : List ℕ). Makes mode time user x) (sym e)
       (record {
-        long = length-laid mode time user (g .known) (g .fits) (g .range);
-        asked = asked-plain mode time user (g .known) (g .fits) (g .range) n;
+        long = length-laid mode time user (g .mode-written) (g .fits) (g .range);
+        asked = asked-plain mode time user (g .mode-written) (g .fits) (g .range) n;
       })
 
   pub makes-mode01 : (l : List ℕ) → mode ≡ 1 → l ≡ laid mode time user → Protects l s → Makes mode time user s

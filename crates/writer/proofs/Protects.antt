@@ -19,7 +19,7 @@ use Rattle.address.specs.Address.{inRange}
 use Rattle.address.specs.declared.HeaderTime.{HeaderTime}
 use Rattle.sector.specs.Layout.{bytesFrom, zeros}
 use Rattle.sector.specs.Layout.Zeros.{drop-zeros, take-zeros}
-use Rattle.writer.specs.Write.{Asked}
+use Rattle.writer.specs.Write.{Asked, isWritten}
 use Rattle.writer.specs.Inner.Protect.{Protects}
 use Rattle.writer.specs.Inner.Laid.{front, laid}
 use Rattle.writer.proofs.Laying.{length-front, length-laid, asked-protected}
@@ -80,14 +80,17 @@ module _ (l : List ℕ) (long : length l ≡ 2352) where
 -- ---- what is made of a laid out Sector of Mode 01
 
 module _ (time : HeaderTime) (user : List ℕ) (fits : length user ≡ 2048) (range : inRange time ≡ true) where
+  written : isWritten 1 ≡ true
+  written = unfold isWritten in refl
+
   long-laid : length (laid 1 time user) ≡ 2352
-  long-laid = length-laid 1 time user (omega arith) fits range
+  long-laid = length-laid 1 time user written fits range
 
   -- its Intermediate field is zeros
   blank-between : bytesFrom 2068 8 (laid 1 time user) ≡ zeros 8
   blank-between =
       ap (take 8)
-      (ap (λ (n : ℕ). drop (n + 2052) (laid 1 time user)) (sym (length-front 1 time user (omega arith) fits range))
+      (ap (λ (n : ℕ). drop (n + 2052) (laid 1 time user)) (sym (length-front 1 time user written fits range))
       ∙ drop-append-add (front 1 time) (user ++ zeros (2336 - length user)) 2052
       ∙ ap (λ (n : ℕ). drop (n + 4) (user ++ zeros (2336 - length user))) (sym fits)
       ∙ drop-append-add user (zeros (2336 - length user)) 4
@@ -95,4 +98,4 @@ module _ (time : HeaderTime) (user : List ℕ) (fits : length user ≡ 2048) (ra
       ∙ take-zeros 8 (2336 - length user - 4) (omega arith)
 
   pub asked-mode01 : (s : List ℕ) → Protects (laid 1 time user) s → Bytes s → Asked 1 time user s
-  asked-mode01 s p b = asked-protected 1 time user (omega arith) fits range s refl (p .long) b (p .before) (p .protected blank-between)
+  asked-mode01 s p b = asked-protected 1 time user written fits range s refl (p .long) b (p .before) (p .protected blank-between)

@@ -1,19 +1,22 @@
--- What the writer of a Sector answers and writes (clause 14; document 01, Order).
+-- What the writer of a Sector answers and writes (clause 14; document 01, Order; document 02, §13).
 -- Assumes nothing.
 use mathlib.Core.Path.{_≡_}
+use mathlib.Core.Bool.{Bool, _||_}
 use mathlib.Core.List.{List, []}
 use Prim.Native.Nat.{ℕ}
-use lib.Dec.{eqb, leb}
+use lib.Dec.{eqb}
 use lib.ListN.{length}
 use Rattle.outcome.specs.Say.{Say, done, refused, demand, cleared}
 use Rattle.address.specs.Address.{inRange}
 use Rattle.sector.specs.Layout.{timeOf, modeOf, userLength, userData}
 use Rattle.sector.specs.Correct.{Correct}
 use Rattle.writer.specs.declared.Written.{Written}
-use Rattle.writer.specs.declared.Written.the-variants.{Done, WrongOutgoing, UnknownMode, WrongIncoming, WrongAddress}
+use Rattle.writer.specs.declared.Written.the-variants.{Done, WrongOutgoing, UnwrittenMode, WrongIncoming, WrongAddress}
 use Rattle.address.specs.declared.HeaderTime.{HeaderTime}
+pub mod Modes
 pub mod One
 pub mod Told
+pub mod Judged
 
 -- the Sector that is asked for: correct, with this mode, address and user data
 pub record Asked (mode : ℕ) (time : HeaderTime) (user s : List ℕ) : Type 0 where
@@ -22,11 +25,15 @@ pub record Asked (mode : ℕ) (time : HeaderTime) (user s : List ℕ) : Type 0 w
   pub has-time : timeOf s ≡ time
   pub has-user : userData s ≡ user
 
+-- the modes that are written: 01 and 02, and no more Mode 00
+unfoldable pub isWritten : ℕ → Bool
+isWritten mode = eqb mode 1 || eqb mode 2
+
 -- the order is 2, 3, 1, 4
 abbrev pub says : ℕ → HeaderTime → List ℕ → List ℕ → Say
 says mode time user old =
     demand (eqb (length old) 2352) 2
-    (demand (leb mode 2) 3
+    (demand (isWritten mode) 3
     (demand (eqb (length user) (userLength mode)) 1
     (demand (inRange time) 4
     (done []))))
@@ -40,6 +47,6 @@ pub data Writes (mode : ℕ) (time : HeaderTime) (user old : List ℕ) : Say →
 abbrev pub sayOf : Written → Say
 sayOf Done = done []
 sayOf WrongOutgoing = refused 2 []
-sayOf UnknownMode = refused 3 []
+sayOf UnwrittenMode = refused 3 []
 sayOf WrongIncoming = refused 1 []
 sayOf WrongAddress = refused 4 []

@@ -3,7 +3,7 @@ ghost use mathlib.Core.Path.{_≡_};
 ghost use Prim.Native.Nat.{_≤_};
 ghost use lib.ListN.{length};
 ghost use Rattle.sector.specs.Layout.{userLength};
-ghost use Rattle.writer.specs.Write.{Writes, sayOf};
+ghost use Rattle.writer.specs.Write.{isWritten, Writes, sayOf};
 ghost use Rattle.writer.specs.Inner.Laid.{front, laid};
 ghost use Rattle.writer.specs.Inner.Protect.{Protects};
 ghost use Rattle.writer.specs.Inner.Make.{Askable, Makes};
@@ -58,13 +58,20 @@ fn protect(laid: [u8; 2352]) -> [u8; 2352]
     s
 }
 
+// Whether a mode is written.
+fn is_written(mode: u8) -> bool
+    ensures { λ r. ⌜ r ≡ isWritten mode ⌝ }
+{
+    if mode == 1 {
+        return true;
+    }
+    mode == 2
+}
+
 // How many bytes of user data a mode has.
 fn user_length(mode: u8) -> usize
     ensures { λ r. ⌜ r ≡ userLength mode ⌝ }
 {
-    if mode == 0 {
-        return 0;
-    }
     if mode == 1 {
         return 2048;
     }
@@ -87,7 +94,7 @@ fn make(mode: u8, time: HeaderTime, user: &[u8]) -> [u8; 2352]
 pub enum Written {
     Done,
     WrongOutgoing,
-    UnknownMode,
+    UnwrittenMode,
     WrongIncoming,
     WrongAddress,
 }
@@ -99,9 +106,9 @@ pub fn write(mode: u8, time: HeaderTime, user: &[u8], out: &mut [u8]) -> Written
     if out.len() != 2352 {
         return Written::WrongOutgoing;
     }
-    if 2 < mode {
+    if !is_written(mode) {
         outcome::wipe(out, 2352);
-        return Written::UnknownMode;
+        return Written::UnwrittenMode;
     }
     let right = user_length(mode);
     if user.len() != right {

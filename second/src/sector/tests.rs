@@ -8,9 +8,13 @@ mod writing;
 use super::*;
 use crate::random::Random;
 
+/// A correct Sector: written in Modes 01 and 02, of an old disc in Mode 00.
 pub fn some_sector(random: &mut Random, mode: u8) -> Vec<u8> {
     let mut sector = vec![0xAA; LENGTH];
-    let data = random.bytes(data_length(mode).unwrap());
+    let Some(length) = data_length(mode) else {
+        return empty(random.address());
+    };
+    let data = random.bytes(length);
     assert_eq!(write(mode, random.address(), &data, &mut sector), Ok(()));
     sector
 }

@@ -35,9 +35,12 @@ fn same_written(mode: u8, address: [u8; 3], data: &[u8], out_length: usize) -> V
     found
 }
 
-/// A correct Sector of random data, by the proved writer.
+/// A correct Sector: of random data by the proved writer in Modes 01 and 02, of an old disc in Mode 00.
 fn sector(random: &mut Random, mode: u8) -> Vec<u8> {
-    let data = random.bytes(data_length(mode).unwrap());
+    let Some(length) = data_length(mode) else {
+        return empty(random.address());
+    };
+    let data = random.bytes(length);
     let mut out = vec![0; LENGTH];
     assert_eq!(proved::write(mode, random.address(), &data, &mut out), 0);
     out

@@ -7,11 +7,30 @@ use second::refusal::Refusal;
 fn written() {
     let mut random = Random::new(1);
     for n in 0..1_500 {
-        let mode = (n % 3) as u8;
+        let mode = 1 + (n % 2) as u8;
         let data = random.bytes(data_length(mode).unwrap());
         let address = random.address();
         let sector = same_written(mode, address, &data, LENGTH);
-        assert_eq!(judge(&sector).map(|passed| passed.address), Ok(address));
+        assert_eq!(judge(&sector), Ok(Passed { mode, address }));
+    }
+}
+
+/// Document 02, 13: Mode 00 is refused in writing, whatever comes with it, and judged as ever.
+#[test]
+fn empty_sectors() {
+    let mut random = Random::new(5);
+    for length in [0, 1, 2048, 2336] {
+        assert_eq!(same_written(0, random.address(), &vec![0; length], LENGTH), [0; LENGTH]);
+        let mut out = [0xAA; LENGTH];
+        assert_eq!(proved::write(0, [0xFF; 3], &vec![0; length], &mut out), 3);
+    }
+    for _ in 0..100 {
+        let [minute, second, frame] = random.address();
+        let mut old = empty([minute, second, frame]);
+        let told = proved::judge(&old);
+        assert_eq!((told.number, told.values), (0, [0, minute, second, frame].map(u64::from)));
+        old[16 + random.below(2336)] = random.change();
+        assert_eq!(proved::judge(&old).number, 15);
     }
 }
 
@@ -70,7 +89,8 @@ fn every_byte_of_an_address() {
         for byte in 0..=255 {
             let mut address = [0x12, 0x34, 0x56];
             address[at] = byte;
-            same_written(0, address, &[], LENGTH);
+            same_written(2, address, &[0x5A; 2336], LENGTH);
+            same_judged_and_repaired(&empty(address));
             let mut received = clean.clone();
             received[12 + at] = byte;
             same_judged_and_repaired(&received);

@@ -7,9 +7,10 @@ use Prim.Native.Nat.{ℕ}
 use lib.Dec.{eqb}
 use lib.ListN.{getD}
 use Rattle.outcome.specs.Say.{Say, done, refused}
+use Rattle.address.specs.declared.HeaderTime.{HeaderTime}
 use Rattle.judge.specs.declared.Judged.{Judged}
 use Rattle.judge.specs.declared.Judged.the-variants.{Passed, WrongIncoming, WrongSync, UnknownMode, WrongAddress, WrongEdc, WrongIntermediate, WrongP, WrongQ, WrongFiller}
-use Rattle.judge.specs.Judging.{judging, sayOf}
+use Rattle.judge.specs.Judging.{passing, judging, sayOf}
 
 -- the answer that a number and its values stand for
 refusal : ℕ → List ℕ → Judged
@@ -43,6 +44,10 @@ told WrongFiller = refl
 
 pub says-one : (a b : Judged) → sayOf a ≡ sayOf b → a ≡ b
 says-one a b e = sym (told a) ∙ ap answer e ∙ told b
+
+-- what comes back with a Sector that passes tells its mode and its address
+pub passing-one : (m n : ℕ) (t u : HeaderTime) → passing m t ≡ passing n u → (m ≡ n) × (t ≡ u)
+passing-one m n t u e = let same = says-one (Passed m t) (Passed n u) e in (cc, cc)
 
 -- two answers that the promise of `judge` allows coincide
 pub judged-one : (s : List ℕ) (a b : Judged) → sayOf a ≡ judging s → sayOf b ≡ judging s → a ≡ b

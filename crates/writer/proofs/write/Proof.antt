@@ -10,6 +10,9 @@ use Rattle.writer.proofs.write.Tie as tie
 returns : tie.Need-returns
 returns c = search ways
 
+is-written-requires : tie.Need-is-written-requires
+is-written-requires c κs = search needs
+
 wipe-requires : tie.Need-wipe-requires
 wipe-requires c κs = search needs
 
@@ -44,7 +47,12 @@ returns-4 : tie.Need-returns-4
 returns-4 c = search ways
 
 make-requires : tie.Need-make-requires
-make-requires c κs = record { known = c .before .before .before .before .if2 .left; fits = c .before .before .if3 .left ∙ c .before .before .before .user-length .ensures; range = sym (c .before .in-range .ensures) ∙ not-false _ (c .if4 .left) }
+make-requires c κs =
+    record {
+      mode-written = sym (c .before .before .before .before .before .is-written .ensures) ∙ not-false _ (c .before .before .before .before .if2 .left);
+      fits = c .before .before .if3 .left ∙ c .before .before .before .user-length .ensures;
+      range = sym (c .before .in-range .ensures) ∙ not-false _ (c .if4 .left);
+    }
 
 slice-aggregate-copy : tie.Need-slice-aggregate-copy
 slice-aggregate-copy c = search needs
@@ -57,14 +65,36 @@ same-length-4 c = search needs
 
 returns-5 : tie.Need-returns-5
 returns-5 c =
-    on-done _ _ _ _ _ (c .before .before .before .before .before .before .before .before .before .before .before .if1 .left) (c .before .before .before .before .before .before .before .before .before .before .if2 .left) _ (c .before .before .before .before .before .before .before .before .before .user-length .ensures) (c .before .before .before .before .before .before .before .before .if3 .left) _ (c .before .before .before .before .before .before .before .in-range .ensures) (c .before .before .before .before .before .before .if4 .left) _ (c .before .before .before .before .before .make .ensures) _
-    (c .before .before .copy .ensures) (λ i. c .slice-known5 .given i .fits)
+    let asked = c .before .before .before .before .before .before in
+    let moded = asked .before .before .before in
+    on-done
+    _
+    _
+    _
+    _
+    _
+    (moded .before .before .before .if1 .left)
+    _
+    (moded .before .before .is-written .ensures)
+    (moded .before .if2 .left)
+    _
+    (moded .user-length .ensures)
+    (asked .before .before .if3 .left)
+    _
+    (asked .before .in-range .ensures)
+    (asked .if4 .left)
+    _
+    (c .before .before .before .before .before .make .ensures)
+    _
+    (c .before .before .copy .ensures)
+    (λ i. c .slice-known5 .given i .fits)
 
 pub write-spec : {M : Type 1} → statement M
 write-spec =
     tie.close
     (tie.spec
     returns
+    is-written-requires
     wipe-requires
     same-length
     returns-2

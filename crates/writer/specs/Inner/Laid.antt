@@ -1,5 +1,5 @@
--- A Sector as it is laid out: Sync, address and mode, the user data, and zeros to the end (clause 14). In Modes 00 and 02 that is
--- all; in Mode 01 the EDC and the parities are put in from byte 2,064 on.
+-- A Sector as it is laid out: Sync, address and mode, the user data, and zeros to the end (clause 14). In Mode 02 that is all; in
+-- Mode 01 the EDC and the parities are put in from byte 2,064 on.
 -- Assumes nothing.
 use mathlib.Core.List.{List, [], _∷_, _++_}
 use Prim.Native.Nat.{ℕ, _-_}

@@ -3,17 +3,17 @@
 use mathlib.Core.Path.{_≡_}
 use mathlib.Core.Bool.{true}
 use mathlib.Core.List.{List}
-use Prim.Native.Nat.{ℕ, _≤_}
+use Prim.Native.Nat.{ℕ}
 use lib.ListN.{length}
 use Rattle.outcome.specs.Bytes.{Bytes}
 use Rattle.address.specs.Address.{inRange}
 use Rattle.address.specs.declared.HeaderTime.{HeaderTime}
 use Rattle.sector.specs.Layout.{userLength}
-use Rattle.writer.specs.Write.{Asked}
+use Rattle.writer.specs.Write.{Asked, isWritten}
 
 -- what no demand refuses
 pub record Askable (mode : ℕ) (time : HeaderTime) (user : List ℕ) : Type 0 where
-  pub known : mode ≤ 2
+  pub mode-written : isWritten mode ≡ true
   pub fits : length user ≡ userLength mode
   pub range : inRange time ≡ true
 

@@ -2,6 +2,7 @@
 -- make it correct.
 -- Assumes nothing.
 use mathlib.Core.Path.{_≡_, refl, sym, ap, _∙_, subst}
+use mathlib.Core.Bool.{true}
 use mathlib.Core.Logic.{_⊎_, inl, inr}
 use mathlib.Core.List.{List}
 use Prim.Native.Nat.{ℕ, zero, suc, _+_, _-_, _<_, _≤_}
@@ -21,7 +22,8 @@ use Rattle.sector.specs.Layout.{bytesFrom, timeOf, modeOf, userLength, userData
 use Rattle.sector.specs.Correct.{Head, Protected, CorrectMode01}
 use Rattle.sector.specs.Correct.Whole.{covered-one}
 use Rattle.address.specs.declared.HeaderTime.{HeaderTime}
-use Rattle.writer.specs.Write.{Asked, Writes, refuses, writes}
+use Rattle.writer.specs.Write.{Asked, isWritten, Writes, refuses, writes}
+use Rattle.writer.specs.Write.Modes.{one-or-two, done-written}
 
 module _ {mode : ℕ} {time : HeaderTime} {user s t : List ℕ} (a : Asked mode time user s) (b : Asked mode time user t) where
   same-mode : modeOf s ≡ modeOf t
@@ -63,9 +65,6 @@ module _ {mode : ℕ} {time : HeaderTime} {user s t : List ℕ} (a : Asked mode 
 
   same-user : userData s ≡ userData t
   same-user = a .has-user ∙ sym (b .has-user)
-
-  mode-00 : mode ≡ 0 → s ≡ t
-  mode-00 e = by-rest (a .correct .mode00 (a .has-mode ∙ e) ∙ sym (b .correct .mode00 (b .has-mode ∙ e)))
 
   -- the user data of a mode that has n bytes of it
   user-of : (n : ℕ) → userLength mode ≡ n → bytesFrom 16 n s ≡ bytesFrom 16 n t
@@ -128,14 +127,12 @@ module _ {mode : ℕ} {time : HeaderTime} {user s t : List ℕ} (a : Asked mode 
           at (inr m) (inr n) = same-between 2068 8 s t (ps .intermediate ∙ sym (pt .intermediate)) i n (omega arith)
 
 -- only one Sector is asked for
-pub asked-one : {mode : ℕ} {time : HeaderTime} {user s t : List ℕ} → Asked mode time user s → Asked mode time user t → s ≡ t
-asked-one {mode} {s = s} {t = t} a b = by mode refl
+pub asked-one : (mode : ℕ) {time : HeaderTime} {user s t : List ℕ} → isWritten mode ≡ true → Asked mode time user s → Asked mode time user t → s ≡ t
+asked-one mode {s = s} {t = t} h a b = by (one-or-two mode h)
   where
-    by : (m : ℕ) → mode ≡ m → s ≡ t
-    by zero e = mode-00 a b e
-    by (suc zero) e = mode-01 a b e
-    by (suc (suc zero)) e = mode-02 a b e
-    by (suc (suc (suc m))) e = absurd (omega (arith, a .correct .known, a .has-mode))
+    by : (mode ≡ 1) ⊎ (mode ≡ 2) → s ≡ t
+    by (inl e) = mode-01 a b e
+    by (inr e) = mode-02 a b e
 
 -- two outcomes that the promise allows coincide, the buffer included
 pub write-one : (mode : ℕ) (time : HeaderTime) (user old : List ℕ) {a b : Say} {s t : List ℕ} → Writes mode time user old a s → Writes mode time user old b t
@@ -143,4 +140,4 @@ pub write-one : (mode : ℕ) (time : HeaderTime) (user old : List ℕ) {a b : Sa
 write-one mode time user old (refuses e) (refuses f) = (sym e ∙ f, refl)
 write-one mode time user old (refuses e) (writes f q) = never (sym e ∙ f)
 write-one mode time user old (writes e p) (refuses f) = never (sym f ∙ e)
-write-one mode time user old (writes e p) (writes f q) = (refl, asked-one p q)
+write-one mode time user old (writes e p) (writes f q) = (refl, asked-one mode (done-written mode time user old e) p q)

@@ -8,19 +8,19 @@ use lib.Dec.{eqb}
 use Rattle.outcome.specs.Say.{Say, done, refused}
 use Rattle.address.specs.declared.HeaderTime.{HeaderTime}
 use Rattle.writer.specs.declared.Written.{Written}
-use Rattle.writer.specs.declared.Written.the-variants.{Done, WrongOutgoing, UnknownMode, WrongIncoming, WrongAddress}
+use Rattle.writer.specs.declared.Written.the-variants.{Done, WrongOutgoing, UnwrittenMode, WrongIncoming, WrongAddress}
 use Rattle.writer.specs.Write.{Writes, sayOf}
 use Rattle.writer.specs.Write.One.{write-one}
 
 answer : Say → Written
 answer (done vs) = Done
-answer (refused n vs) = cond (eqb n 1) WrongIncoming (cond (eqb n 2) WrongOutgoing (cond (eqb n 3) UnknownMode WrongAddress))
+answer (refused n vs) = cond (eqb n 1) WrongIncoming (cond (eqb n 2) WrongOutgoing (cond (eqb n 3) UnwrittenMode WrongAddress))
 
 told : (a : Written) → answer (sayOf a) ≡ a
 unfolding answer
 told Done = refl
 told WrongOutgoing = refl
-told UnknownMode = refl
+told UnwrittenMode = refl
 told WrongIncoming = refl
 told WrongAddress = refl
 

@@ -5,7 +5,7 @@ use super::*;
 #[test]
 fn what_is_written_passes_with_mode_and_address() {
     let mut random = Random::new(1);
-    for mode in 0..3 {
+    for mode in 1..3 {
         for _ in 0..20 {
             let address = random.address();
             let data = random.bytes(data_length(mode).unwrap());
@@ -13,6 +13,15 @@ fn what_is_written_passes_with_mode_and_address() {
             write(mode, address, &data, &mut sector).unwrap();
             assert_eq!(judge(&sector), Ok(Passed { mode, address }));
         }
+    }
+}
+
+#[test]
+fn empty_sectors_of_old_discs_pass_with_mode_00() {
+    let mut random = Random::new(9);
+    for _ in 0..20 {
+        let address = random.address();
+        assert_eq!(judge(&empty(address)), Ok(Passed { mode: 0, address }));
     }
 }
 

@@ -7,7 +7,7 @@ const ADDRESS: [u8; 3] = [0x12, 0x34, 0x56];
 #[test]
 fn fields_stand_where_clause_14_says() {
     let mut random = Random::new(1);
-    for mode in 0..3 {
+    for mode in 1..3 {
         let data = random.bytes(data_length(mode).unwrap());
         let mut out = vec![0xAA; LENGTH];
         assert_eq!(write(mode, ADDRESS, &data, &mut out), Ok(()));
@@ -17,7 +17,6 @@ fn fields_stand_where_clause_14_says() {
         assert_eq!(out[12..16], [0x12, 0x34, 0x56, mode]);
         assert_eq!(out[16..16 + data.len()], data);
         match mode {
-            0 => assert_eq!(out[16..], [0; 2336]),
             1 => assert_eq!(out[2068..2076], [0; 8]),
             _ => assert_eq!(out[16..], data),
         }
@@ -51,12 +50,11 @@ fn addresses_accepted_and_refused() {
 }
 
 /// All combinations of the four faults: the first in the order 2, 3, 1, 4 is the answer.
-#[test]
-fn order_of_refusals() {
+fn order_of_refusals(wrong_mode: u8) {
     for faults in 1..16 {
         let has = |bit: u8| faults >> bit & 1 == 1;
         let mut out = vec![0xAA; if has(0) { LENGTH - 1 } else { LENGTH }];
-        let mode = if has(1) { 3 } else { 1 };
+        let mode = if has(1) { wrong_mode } else { 1 };
         let data = vec![7; if has(2) { 2047 } else { 2048 }];
         let address = if has(3) { [0x00, 0x60, 0x00] } else { ADDRESS };
         let expected = if has(0) {
@@ -75,17 +73,32 @@ fn order_of_refusals() {
 }
 
 #[test]
+fn order_of_refusals_with_mode_00_and_with_none_of_the_standard() {
+    order_of_refusals(0);
+    order_of_refusals(3);
+}
+
+#[test]
 fn each_mode_takes_one_length_only() {
     let mut out = vec![0; LENGTH];
-    for mode in 0..3 {
+    for mode in 1..3 {
         for length in [0, 1, 2047, 2048, 2049, 2335, 2336, 2337] {
             let expected =
                 if Some(length) == data_length(mode) { Ok(()) } else { Err(WrongIncoming) };
             assert_eq!(write(mode, ADDRESS, &vec![7; length], &mut out), expected);
         }
     }
-    for mode in 3..=255 {
-        assert_eq!(write(mode, ADDRESS, &[], &mut out), Err(WrongMode));
+}
+
+/// Document 02, 13: no more Mode 00, whatever the user data.
+#[test]
+fn only_modes_01_and_02_are_written() {
+    for mode in (0..=255).filter(|mode| ![1, 2].contains(mode)) {
+        for length in [0, 2048, 2336] {
+            let mut out = vec![0xAA; LENGTH];
+            assert_eq!(write(mode, ADDRESS, &vec![0; length], &mut out), Err(WrongMode));
+            assert_eq!(out, [0; LENGTH]);
+        }
     }
 }
 

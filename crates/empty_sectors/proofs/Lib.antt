@@ -1,0 +1,4 @@
+-- the ways out of `find`
+pub mod Ways
+-- from turn to turn
+pub mod Turning

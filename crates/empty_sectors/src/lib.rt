@@ -1,0 +1,146 @@
+// The addresses of a dump's empty Sectors (document 02, §13), from standard input to standard output. What one read means stands in
+// `reading`, every character of a line in `text`.
+ghost use mathlib.Core.Path.{_≡_};
+ghost use lib.ListN.{length};
+ghost use Rattle.empty_sectors.specs.Listed.{foundIn};
+ghost use Rattle.empty_sectors.specs.Run.{afterLine, Ended};
+ghost use Rattle.empty_sectors.specs.Inner.Turns.{Sayable, Turned};
+use address::HeaderTime;
+use judge::Judged;
+use libc::STDERR_FILENO;
+use libc::STDOUT_FILENO;
+use reading::Filled;
+use reading::Read;
+
+// What is found of a Sector: it is empty, with its address, or it is another.
+pub enum Found {
+    Empty(HeaderTime),
+    Other,
+}
+
+// Where the program stands: between two Sectors; ended by a read that brought nothing, with so many bytes of a Sector before it; or ended by
+// a write that failed.
+pub enum Stand {
+    Going,
+    Stopped(Filled),
+    WriteFailed,
+}
+
+// Judging decides: a Sector is empty if it passes with mode 00.
+pub fn find(sector: &[u8]) -> Found
+    ensures { λ r. ⌜ r ≡ foundIn (now (sector .entry)) ⌝ }
+{
+    let judged = judge::judge(sector);
+    let Judged::Passed(mode, time) = judged else {
+        return Found::Other;
+    };
+    if mode == 0 {
+        return Found::Empty(time);
+    }
+    Found::Other
+}
+
+// After a line: the program goes on if all of it went out.
+fn after_line(went: bool) -> Stand
+    ensures { λ r. ⌜ r ≡ afterLine went ⌝ }
+{
+    if !went {
+        return Stand::WriteFailed;
+    }
+    Stand::Going
+}
+
+// Prints what is printed of a Sector. Only this writes to standard output, and it asks that this is what is printed.
+fn say(line: &[u8]) -> Stand
+    requires { ⌜ Sayable (now line) ⌝ }
+    ensures { λ r. ⌜ Turned r ⌝ }
+{
+    after_line(io::write_all(STDOUT_FILENO, line))
+}
+
+// Prints the line of a Sector, which only an empty one has.
+fn tell(sector: &[u8]) -> Stand
+    requires { ⌜ length (now sector) ≡ 2352 ⌝ }
+    ensures { λ r. ⌜ Turned r ⌝ }
+{
+    let found = find(sector);
+    let Found::Empty(time) = found else {
+        return say(b"");
+    };
+    let line = text::address_line(time);
+    say(&line)
+}
+
+// Reads one Sector, and prints its line.
+fn turn(sector: &mut [u8]) -> Stand
+    requires { ⌜ length (now sector) ≡ 2352 ⌝ }
+    ensures { λ r. ⌜ Turned r ⌝ }
+{
+    let filled = reading::fill(sector);
+    let last = filled.last;
+    let Read::More(_) = last else {
+        return Stand::Stopped(filled);
+    };
+    tell(sector)
+}
+
+// All turns. A loop has to end, so it counts them, to the largest number that can be counted.
+fn turns() -> Stand
+    ensures { λ r. ⌜ Ended r ⌝ }
+{
+    let mut sector = sector::blank();
+    let mut stand = Stand::Going;
+    let mut made: u64 = 0;
+    while made < u64::MAX {
+        let Stand::Going = stand else {
+            return stand;
+        };
+        stand = turn(&mut sector);
+        made += 1;
+    }
+    stand
+}
+
+// Says on standard error how many bytes were left over, or that reading failed.
+fn complain_of_input(filled: Filled) {
+    let last = filled.last;
+    match last {
+        Read::More(_) => {}
+        Read::End => {
+            if filled.have != 0 {
+                io::write_all(STDERR_FILENO, b"empties: tail ");
+                io::print_decimal(STDERR_FILENO, filled.have as u64);
+                io::write_all(STDERR_FILENO, b"\n");
+            }
+        }
+        Read::Failed => {
+            io::write_all(
+                STDERR_FILENO,
+                b"empties: standard input could not be read\n",
+            );
+        }
+    }
+}
+
+// Says on standard error what was left over, or what failed.
+fn complain(stand: Stand) {
+    match stand {
+        Stand::Going => {}
+        Stand::Stopped(filled) => complain_of_input(filled),
+        Stand::WriteFailed => {
+            io::write_all(
+                STDERR_FILENO,
+                b"empties: standard output could not be written\n",
+            );
+        }
+    }
+}
+
+// Prints the address of each empty Sector, and says how it ended.
+pub fn print_addresses() -> Stand
+    ensures { λ r. ⌜ Ended r ⌝ }
+{
+    let stand = turns();
+    complain(stand);
+    stand
+}
