@@ -51,11 +51,8 @@ part-repair-end-2 c = omega (arith, repairing-long (c .before .before .loop .inv
 repair-requires : tie.Need-repair-requires Inv-loop μ-loop
 repair-requires c κs = search needs
 
-mul-fates : tie.Need-mul-fates Inv-loop μ-loop
-mul-fates c = search needs
-
-array-set-from-fates : tie.Need-array-set-from-fates Inv-loop μ-loop
-array-set-from-fates c = search needs
+with-fate-requires : tie.Need-with-fate-requires Inv-loop μ-loop
+with-fate-requires c κs = search needs
 
 add-i : tie.Need-add-i Inv-loop μ-loop
 add-i c = search needs
@@ -65,9 +62,10 @@ loop-less c = search needs
 
 loop-again : tie.Need-loop-again Inv-loop μ-loop
 loop-again c =
-    let called = c .before .before in
+    let called = c .before .before .before in
     let turn = called .before .before .before in
-    repairing-more (turn .before .loop .inv) (turn .before .before .before .before .before .pre) (turn .loop-test .taken) (called .repair .result) _ (called .repair .ensures) (search needs)
+    rw (c .with-fate .ensures)
+    (repairing-more (turn .before .loop .inv) (turn .before .before .before .before .before .pre) (turn .loop-test .taken) (called .repair .result) _ (called .repair .ensures) (search needs))
 
 same-length : tie.Need-same-length Inv-loop μ-loop
 same-length c = c .before .loop .inv .as-long
@@ -93,8 +91,7 @@ repair-each-spec =
     part-repair-start-2
     part-repair-end-2
     repair-requires
-    mul-fates
-    array-set-from-fates
+    with-fate-requires
     add-i
     loop-less
     loop-again

@@ -1,4 +1,4 @@
--- `batch::repair_many` meets its contract: each way out is a law of `Ways`.
+-- `batch::repair_many` meets its contract: each way out is a law of `Ways`, or the batch is taken.
 -- Assumes nothing.
 use borrow.Author.Needs.{needs}
 use Rattle.batch.proofs.Ways.{ways}
@@ -11,11 +11,17 @@ sectors-in-requires c κs = search needs
 refuse-requires : tie.Need-refuse-requires
 refuse-requires c κs = search needs
 
+same-length : tie.Need-same-length
+same-length c = search needs
+
 returns : tie.Need-returns
 returns c = search ways
 
 refuse-requires-2 : tie.Need-refuse-requires-2
 refuse-requires-2 c κs = search needs
+
+same-length-2 : tie.Need-same-length-2
+same-length-2 c = search needs
 
 returns-2 : tie.Need-returns-2
 returns-2 c = search ways
@@ -23,8 +29,8 @@ returns-2 c = search ways
 repair-each-requires : tie.Need-repair-each-requires
 repair-each-requires c κs = (c .before .before .before .sectors-in .ensures .so-many (c .before .before .if1 .left), c .before .if2 .left)
 
-same-length : tie.Need-same-length
-same-length c = search needs
+same-length-3 : tie.Need-same-length-3
+same-length-3 c = search needs
 
 returns-3 : tie.Need-returns-3
 returns-3 c = search ways
@@ -35,9 +41,11 @@ repair-many-spec =
     (tie.spec
     sectors-in-requires
     refuse-requires
+    same-length
     returns
     refuse-requires-2
+    same-length-2
     returns-2
     repair-each-requires
-    same-length
+    same-length-3
     returns-3)
