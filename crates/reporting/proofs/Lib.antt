@@ -1,4 +1,4 @@
-pub mod Answers
-pub mod Filling
 pub mod Steps
+pub mod Telling
+pub mod Reaching
 pub mod Ends

@@ -1,14 +1,17 @@
 // The report (document 01) from standard input to standard output. What one read means stands in `reading`, what is printed and what
-// then follows in `saying`; the fate of a Sector is decided in `fate`, every character of a line in `text`.
-mod reading;
+// then follows in `saying`; the fate of a Sector is decided in `batch` and `fate`, every character of a line in `text`.
 mod saying;
 
 ghost use mathlib.Core.Path.{_≡_};
-ghost use Prim.Native.Nat.{_<_};
+ghost use Prim.Native.Nat.{_*_};
 ghost use lib.ListN.{length};
+ghost use Rattle.reading.specs.Reading.{Fills};
 ghost use Rattle.text.specs.Counting.{largest};
-ghost use Rattle.reporting.specs.Run.{Goes, isOver, Turning, Reported};
+ghost use Rattle.reporting.specs.Run.{isOver, standAfter, ahead, Turning, Reported};
+ghost use Rattle.reporting.specs.Inner.Turn.{Turn};
 use libc::STDERR_FILENO;
+use reading::Filled;
+use reading::Read;
 use text::Counts;
 
 // How a report stands: before its first line; between two Sectors; at the input's end with so many bytes left over; before its last
@@ -44,35 +47,76 @@ fn over(stand: Stand) -> bool
     }
 }
 
-// Reads one Sector and prints its line.
-fn turn(counts: Counts, sector: &mut [u8]) -> Progress
-    requires { ⌜ (length (now sector) ≡ 2352) × (counts .sectors < largest) ⌝ }
-    ensures { λ r. ⌜ Goes Stand.Going counts (r .stand) (r .counts) ⌝ }
+// How a report stands when the lines of the Sectors that came are out: it goes on only if all that were asked for came.
+fn stand_after(filled: Filled) -> Stand
+    ensures { λ r. ⌜ r ≡ standAfter filled ⌝ }
 {
-    let filled = reading::read_sector(sector);
-    let stand = reading::stand_after(filled);
-    if over(stand) {
-        return Progress { counts, stand };
+    let last = filled.last;
+    match last {
+        Read::More(_) => Stand::Going,
+        Read::End => Stand::AtEnd((filled.have % 2352) as u64),
+        Read::Failed => Stand::ReadFailed,
     }
-    saying::tell(counts, sector)
 }
 
-// All turns. A loop has to end, so it counts them, to the largest number of Sectors that can be counted.
+// How many Sectors are asked for at once: sixteen, or as many as can still be counted.
+fn sectors_ahead(counts: Counts) -> usize
+    ensures { λ r. ⌜ r ≡ ahead counts ⌝ }
+{
+    let room = u64::MAX - counts.sectors;
+    if room < 16 { room as usize } else { 16 }
+}
+
+// Prints the lines of the whole Sectors that came; then the report stands as reading ended.
+fn tell_whole(counts: Counts, filled: Filled, received: &[u8], out: &mut [u8]) -> Progress
+    requires { ⌜ (length (now received) ≡ 37632) × (length (now out) ≡ 37632) × Fills (2352 * ahead counts) filled ⌝ }
+    ensures { λ r. ⌜ Turn counts r ⌝ }
+{
+    let whole = filled.have - filled.have % 2352;
+    let told = saying::tell_each(counts, &received[..whole], &mut out[..whole]);
+    let stand = told.stand;
+    if over(stand) {
+        return told;
+    }
+    let counted = told.counts;
+    Progress {
+        counts: counted,
+        stand: stand_after(filled),
+    }
+}
+
+// Reads Sectors and prints the lines of those that came.
+fn turn(counts: Counts, received: &mut [u8], out: &mut [u8]) -> Progress
+    requires { ⌜ (length (now received) ≡ 37632) × (length (now out) ≡ 37632) ⌝ }
+    ensures { λ r. ⌜ Turn counts r ⌝ }
+{
+    let room = 2352 * sectors_ahead(counts);
+    let filled = reading::fill(&mut received[..room]);
+    tell_whole(counts, filled, received, out)
+}
+
+// All turns. A loop has to end, so it goes by the Sectors counted, to the largest number of them that can be.
 fn turns(opened: Progress) -> Progress
     requires { ⌜ Turning 0 opened ⌝ }
     ensures { λ r. ⌜ Turning largest r ⌝ }
 {
-    let mut sector = sector::blank();
     let mut progress = opened;
-    let mut made: u64 = 0;
-    while made < u64::MAX {
-        let stand = progress.stand;
+    let mut stand = progress.stand;
+    if over(stand) {
+        return progress;
+    }
+    let mut received = [0u8; 37632];
+    let mut out = [0u8; 37632];
+    let mut sectors: u64 = 0;
+    while sectors < u64::MAX {
+        let counts = progress.counts;
+        progress = turn(counts, &mut received, &mut out);
+        stand = progress.stand;
         if over(stand) {
             return progress;
         }
-        let counts = progress.counts;
-        progress = turn(counts, &mut sector);
-        made += 1;
+        let counted = progress.counts;
+        sectors = counted.sectors;
     }
     progress
 }

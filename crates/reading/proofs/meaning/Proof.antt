@@ -1,10 +1,10 @@
--- `reporting::reading::meaning` meets its contract: each way out is one of `Answers`.
+-- `reading::meaning` meets its contract: each way out is one of `Answers`.
 -- Assumes nothing.
 use borrow.Author.Needs.{needs}
 use mir.Facts.{toZ-ofZ}
-use Rattle.reporting.proofs.Answers.{failed, ended, more}
-use Rattle.reporting.proofs.reading.meaning.Statement.{statement}
-use Rattle.reporting.proofs.reading.meaning.Tie as tie
+use Rattle.reading.proofs.Answers.{failed, ended, more}
+use Rattle.reading.proofs.meaning.Statement.{statement}
+use Rattle.reading.proofs.meaning.Tie as tie
 
 returns : tie.Need-returns
 returns c = failed (c .before .before .args .got) (rw (toZ-ofZ (c .before .before .fits .got)) at (c .if1 .taken))

@@ -4,11 +4,9 @@ use mathlib.Core.Path.{_≡_}
 use Prim.Native.Nat.{ℕ, zero, suc, _<_}
 use lib.IntN.{ℤ, pos, negsuc}
 use Rattle.libc.specs.Io.{Moved}
-use Rattle.reporting.specs.declared.reading.Filled.{Filled}
-use Rattle.reporting.specs.declared.reading.Read.{Read}
-use Rattle.reporting.specs.declared.reading.Read.the-variants.{Failed, End, More}
-use Rattle.reporting.specs.declared.Stand.{Stand}
-use Rattle.reporting.specs.declared.Stand.the-variants.{Going, AtEnd, ReadFailed}
+use Rattle.reading.specs.declared.Filled.{Filled}
+use Rattle.reading.specs.declared.Read.{Read}
+use Rattle.reading.specs.declared.Read.the-variants.{Failed, End, More}
 
 -- failed exactly if it is negative, at the end exactly if it is 0, and else so many bytes more
 abbrev pub meaningOf : ℤ → Read
@@ -30,12 +28,3 @@ StoppedAt room have Failed = have < room
 
 abbrev pub Fills : ℕ → Filled → Type 0
 Fills room f = StoppedAt room (f .have) (f .last)
-
--- a whole Sector: the report goes on; the input's end: it is there, with what was read left over; and a failure ends it
-abbrev pub standOf : ℕ → Read → Stand
-standOf have (More n) = Going
-standOf have End = AtEnd have
-standOf have Failed = ReadFailed
-
-abbrev pub standAfter : Filled → Stand
-standAfter f = standOf (f .have) (f .last)

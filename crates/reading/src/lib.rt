@@ -1,23 +1,22 @@
-// Reading a Sector. The C library's answers go into one pure function, `meaning`; what they lead to is decided by what it says.
+// Reading standard input into a buffer. The C library's answers go into one pure function, `meaning`; what they lead to is decided by
+// what it says.
 ghost use mathlib.Core.Path.{_≡_};
-ghost use Prim.Native.Nat.{_<_};
 ghost use lib.ListN.{length};
 ghost use Rattle.libc.specs.Io.{Moved};
-ghost use Rattle.reporting.specs.Reading.{meaningOf, Brought, Fills, standAfter};
-use crate::Stand;
+ghost use Rattle.reading.specs.Reading.{meaningOf, Brought, Fills};
 use libc::STDIN_FILENO;
 
 // What one read said: it failed, the input is at its end, or so many bytes more came.
-pub(crate) enum Read {
+pub enum Read {
     Failed,
     End,
     More(usize),
 }
 
 // How many bytes of a buffer are read, and what the last read said.
-pub(crate) struct Filled {
-    have: usize,
-    last: Read,
+pub struct Filled {
+    pub have: usize,
+    pub last: Read,
 }
 
 // What the answer of a read into `part` means.
@@ -44,7 +43,7 @@ fn read_more(part: &mut [u8]) -> Read
 }
 
 // Reads until the buffer is full, or a read brings nothing; a read may bring less than was asked for.
-pub(crate) fn read_sector(buffer: &mut [u8]) -> Filled
+pub fn fill(buffer: &mut [u8]) -> Filled
     ensures { λ r. ⌜ Fills (length (now (buffer .entry))) r ⌝ }
 {
     let mut have: usize = 0;
@@ -57,16 +56,4 @@ pub(crate) fn read_sector(buffer: &mut [u8]) -> Filled
         have += n;
     }
     Filled { have, last }
-}
-
-// How a report stands that was between two Sectors: it goes on only with a whole one.
-pub(crate) fn stand_after(filled: Filled) -> Stand
-    ensures { λ r. ⌜ r ≡ standAfter filled ⌝ }
-{
-    let last = filled.last;
-    match last {
-        Read::More(_) => Stand::Going,
-        Read::End => Stand::AtEnd(filled.have as u64),
-        Read::Failed => Stand::ReadFailed,
-    }
 }

@@ -1,4 +1,4 @@
--- The ways out of `read_sector`, and what one read adds.
+-- The ways out of `fill`, and what one read adds.
 -- Assumes nothing.
 use mathlib.Core.Path.{_≡_, sym, _∙_}
 use mathlib.Core.List.{[], _∷_}
@@ -8,10 +8,10 @@ use types.Run.{OneOf, miss}
 use denote.Enum.Declared as enum
 use lib.IntN.{ℤ, pos, negsuc}
 use Rattle.libc.specs.Io.{Moved}
-use Rattle.reporting.specs.declared.reading.Read.{Read}
-use Rattle.reporting.specs.declared.reading.Read.the-variants.{Failed, End, More}
-use Rattle.reporting.specs.Reading.{meaningOf, Brought, StoppedAt}
-use Rattle.reporting.proofs.reading.Read as read
+use Rattle.reading.specs.declared.Read.{Read}
+use Rattle.reading.specs.declared.Read.the-variants.{Failed, End, More}
+use Rattle.reading.specs.Reading.{meaningOf, Brought, StoppedAt}
+use Rattle.reading.proofs.Read as read
 
 -- nothing has stopped the reading so far
 abbrev pub Unstopped : Read → Type 0

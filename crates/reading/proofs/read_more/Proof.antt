@@ -1,11 +1,11 @@
--- `reporting::reading::read_more` meets its contract: it hands what `read` answered to `meaning`.
+-- `reading::read_more` meets its contract: it hands what `read` answered to `meaning`.
 -- Assumes nothing.
 use mathlib.Core.Path.{sym, ap, _∙_}
 use borrow.Author.Needs.{needs}
-use Rattle.reporting.specs.Reading.{meaningOf}
-use Rattle.reporting.proofs.Answers.{read-back, answered}
-use Rattle.reporting.proofs.reading.read_more.Statement.{statement}
-use Rattle.reporting.proofs.reading.read_more.Tie as tie
+use Rattle.reading.specs.Reading.{meaningOf}
+use Rattle.reading.proofs.Answers.{read-back, answered}
+use Rattle.reading.proofs.read_more.Statement.{statement}
+use Rattle.reading.proofs.read_more.Tie as tie
 
 read-requires : tie.Need-read-requires
 read-requires c κs = search needs

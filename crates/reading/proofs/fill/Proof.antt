@@ -1,4 +1,4 @@
--- `reporting::reading::read_sector` meets its contract: so far nothing has stopped it, and each turn brings at least one byte.
+-- `reading::fill` meets its contract: so far nothing has stopped it, and each turn brings at least one byte.
 -- Assumes nothing.
 use mathlib.Core.Path.{_≡_, _∙_}
 use Prim.Native.Nat.{_≤_, _<_, _+_, _-_}
@@ -6,9 +6,9 @@ use native.Mathlib.Omega.{arith}
 use borrow.Author.Needs.{needs}
 use borrow.Rule.Slice.PartMut.{putMid}
 use lib.ListN.{length, length-take, length-drop}
-use Rattle.reporting.proofs.Filling.{Unstopped, came, stopped, filled-up}
-use Rattle.reporting.proofs.reading.read_sector.Statement.{statement}
-use Rattle.reporting.proofs.reading.read_sector.Tie as tie
+use Rattle.reading.proofs.Filling.{Unstopped, came, stopped, filled-up}
+use Rattle.reading.proofs.fill.Statement.{statement}
+use Rattle.reading.proofs.fill.Tie as tie
 
 abbrev Inv-loop : tie.InvT-loop
 Inv-loop buffer₀ have₀ last₀ buffer have last = (length buffer ≡ length buffer₀) × (have ≤ length buffer) × Unstopped last
@@ -73,8 +73,8 @@ returns-2 c =
     let l = c .before .loop in
     filled-up _ (l .have) (l .last) (l .inv .2) (omega (arith, l .inv .0))
 
-pub read-sector-spec : {M : Type 1} → statement M
-read-sector-spec =
+pub fill-spec : {M : Type 1} → statement M
+fill-spec =
     tie.close
     (tie.spec
     Inv-loop
