@@ -10,7 +10,6 @@ use Rattle.sector.specs.Layout.{timeOf}
 use Rattle.repair.specs.Repair.{sayOf}
 use Rattle.repair.specs.declared.Repaired.{Repaired}
 use Rattle.repair.specs.declared.Repaired.the-variants.{HandedOut}
-use Rattle.text.specs.declared.Fate.{Fate}
 use Rattle.text.specs.declared.Fate.the-variants as fates
 use Rattle.fate.specs.Fated.{fateFrom}
 

@@ -1,23 +1,23 @@
 -- From turn to turn: what was read, the lines of what came, and how far the report then is.
 -- Assumes nothing.
-use mathlib.Core.Path.{_≡_, refl, sym, ap, _∙_, subst}
-use mathlib.Core.Bool.{Bool, true, false}
-use mathlib.Core.List.{List, []}
-use Prim.Native.Nat.{ℕ, suc, _+_, _-_, _*_, _/_, _%_, _≤_, _<_, min}
+use mathlib.Core.Path.{_≡_, sym, ap, _∙_, subst}
+use mathlib.Core.Bool.{true, false}
+use mathlib.Core.List.{List}
+use Prim.Native.Nat.{ℕ, _+_, _-_, _*_, _/_, _≤_, _<_}
 use native.Mathlib.Omega.{arith}
 use lib.ListN.{length}
 use Rattle.batch.specs.Sectors.{sectorAt}
 use Rattle.batch.specs.Sectors.Apart.{length-sector}
 use Rattle.text.specs.declared.Counts.{Counts}
-use Rattle.text.specs.Counting.{largest, countedWith}
+use Rattle.text.specs.Counting.{largest}
 use Rattle.reading.specs.declared.Filled.{Filled}
 use Rattle.reading.specs.declared.Read.{Read}
 use Rattle.reading.specs.declared.Read.the-variants.{Failed, End, More}
 use Rattle.reading.specs.Reading.{StoppedAt, Fills}
 use Rattle.reporting.specs.declared.Progress.{Progress}
 use Rattle.reporting.specs.declared.Stand.{Stand}
-use Rattle.reporting.specs.declared.Stand.the-variants.{Opening, Going, AtEnd, Closing, Done, ReadFailed, WriteFailed}
-use Rattle.reporting.specs.Run.{Step, tells, ends, unread, goes, Reached, isOver, ahead, standOf, standAfter, Counted, Turning}
+use Rattle.reporting.specs.declared.Stand.the-variants.{Going}
+use Rattle.reporting.specs.Run.{tells, ends, unread, goes, Reached, isOver, ahead, standOf, standAfter, Counted, Turning}
 use Rattle.reporting.specs.Run as run
 use Rattle.reporting.specs.Inner.Turn.{Lines, none, next, Told, all-told, unwritten, sectorsIn, Some, Turn}
 use Rattle.reporting.proofs.Steps.{going, turned-over}
@@ -29,14 +29,14 @@ within room have (More n) h = omega arith
 within room have End h = omega arith
 within room have Failed h = omega arith
 
-pub whole-within : (c : Counts) (filled : Filled) → Fills (2352 * ahead c) filled → filled .have - filled .have % 2352 ≤ 37632
+pub whole-within : (c : Counts) (filled : Filled) → Fills (2352 * ahead c) filled → 2352 * (filled .have / 2352) ≤ 37632
 whole-within c filled f =
     let h : filled .have ≤ 2352 * ahead c = within (2352 * ahead c) (filled .have) (filled .last) f in omega arith
 
 -- ---- one turn
 
 module _ (c : Counts) (filled : Filled) (fills : Fills (2352 * ahead c) filled) (r : List ℕ)
-    (long : length r ≡ filled .have - filled .have % 2352) where
+    (long : length r ≡ 2352 * (filled .have / 2352)) where
   -- the whole Sectors that came are few enough
   pub some-came : (out : List ℕ) → length out ≡ length r → Some c r out
   some-came out e =
@@ -47,7 +47,7 @@ module _ (c : Counts) (filled : Filled) (fills : Fills (2352 * ahead c) filled) 
   so-many = omega arith
 
   turn-of : {p : Progress} → Told (filled .have / 2352) r c (standAfter filled) p → Turn c p
-  turn-of t = record { filled = filled; fills = fills; came = r; long = omega arith; told = t }
+  turn-of t = record { filled = filled; fills = fills; came = r; long = long; told = t }
 
   -- a line could not be written
   pub turn-over : (p : Progress) → Told (sectorsIn r) r c Going p → isOver (p .stand) ≡ true → Turn c p

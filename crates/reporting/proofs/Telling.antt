@@ -15,7 +15,7 @@ use Rattle.outcome.specs.Say.{done}
 use Rattle.batch.specs.declared.Answer.{Answer}
 use Rattle.batch.specs.declared.Answer.the-variants as answers
 use Rattle.batch.specs.declared.SectorFate.{SectorFate}
-use Rattle.batch.specs.Sectors.{Sectors, sectorAt}
+use Rattle.batch.specs.Sectors.{sectorAt}
 use Rattle.batch.specs.Sectors.Apart.{length-sector}
 use Rattle.batch.specs.Batch.{noSector, fateAt, sayAt, RepairsMany, wrong-incoming, wrong-outgoing, sayOf}
 use Rattle.batch.specs.Batch.Alone.{when-done}
@@ -30,8 +30,7 @@ use Rattle.text.specs.Counting.Room.{one-more}
 use Rattle.fate.specs.Fated.{fateFrom, Fated}
 use Rattle.fate.specs.Fated.InBatch.{fated-in-batch}
 use Rattle.reporting.specs.declared.Progress.{Progress}
-use Rattle.reporting.specs.declared.Stand.{Stand}
-use Rattle.reporting.specs.declared.Stand.the-variants.{Opening, Going, AtEnd, Closing, Done, ReadFailed, WriteFailed}
+use Rattle.reporting.specs.declared.Stand.the-variants.{Going, Done, WriteFailed}
 use Rattle.reporting.specs.Run.{afterLine}
 use Rattle.reporting.specs.Inner.Turn.{Says, counted, Due, Lines, none, next, Told, all-told, unwritten, sectorsIn, Some}
 use Rattle.reporting.proofs.Stand as stand

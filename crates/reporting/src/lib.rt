@@ -3,7 +3,7 @@
 mod saying;
 
 ghost use mathlib.Core.Path.{_≡_};
-ghost use Prim.Native.Nat.{_*_};
+ghost use Prim.Native.Nat.{_*_, _/_};
 ghost use lib.ListN.{length};
 ghost use Rattle.reading.specs.Reading.{Fills};
 ghost use Rattle.text.specs.Counting.{largest};
@@ -67,12 +67,19 @@ fn sectors_ahead(counts: Counts) -> usize
     if room < 16 { room as usize } else { 16 }
 }
 
+// How many of so many bytes are those of whole Sectors.
+fn whole_bytes(have: usize) -> usize
+    ensures { λ r. ⌜ r ≡ 2352 * (have / 2352) ⌝ }
+{
+    have - have % 2352
+}
+
 // Prints the lines of the whole Sectors that came; then the report stands as reading ended.
 fn tell_whole(counts: Counts, filled: Filled, received: &[u8], out: &mut [u8]) -> Progress
     requires { ⌜ (length (now received) ≡ 37632) × (length (now out) ≡ 37632) × Fills (2352 * ahead counts) filled ⌝ }
     ensures { λ r. ⌜ Turn counts r ⌝ }
 {
-    let whole = filled.have - filled.have % 2352;
+    let whole = whole_bytes(filled.have);
     let told = saying::tell_each(counts, &received[..whole], &mut out[..whole]);
     let stand = told.stand;
     if over(stand) {

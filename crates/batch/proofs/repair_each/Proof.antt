@@ -1,7 +1,6 @@
 -- `batch::repair_each` meets its contract. The invariant: i Sectors are repaired, and the rest of the buffer is as it was (`Repairing`);
 -- a turn is `repairing-more`.
 -- Assumes nothing.
-use mathlib.Core.Path.{sym, _∙_}
 use Prim.Native.Nat.{_-_}
 use native.Mathlib.Omega.{arith}
 use borrow.Author.Needs.{needs}

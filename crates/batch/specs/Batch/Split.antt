@@ -5,13 +5,13 @@ use mathlib.Core.List.{List, [], _∷_, _++_}
 use mathlib.Core.Logic.{_⊎_, inl, inr}
 use Prim.Native.Nat.{ℕ, _+_, _-_, _*_, _<_, _≤_}
 use native.Mathlib.Omega.{arith}
-use lib.ListN.{length, take, drop, getD, length-append, length-drop, List·getD-append, List·getD-eq-default}
+use lib.ListN.{length, take, drop, length-append, length-drop, List·getD-append, List·getD-eq-default}
 use lib.Seq.{length-take-le, take-all, getD-take, getD-drop, getD-append-add}
 use Rattle.outcome.specs.First.Found.{lt-or-le}
 use Rattle.outcome.specs.Say.{done}
 use Rattle.repair.specs.Repair.{Repairs}
 use Rattle.batch.specs.declared.SectorFate.{SectorFate}
-use Rattle.batch.specs.Sectors.{Sectors, sectorAt}
+use Rattle.batch.specs.Sectors.{sectorAt}
 use Rattle.batch.specs.Sectors.Apart.{sector-first, sector-second, rowFrom, length-row, sector-row}
 use Rattle.batch.specs.Batch.{noSector, fateAt, sayAt, Taken, RepairsMany, taken}
 use Rattle.batch.specs.Batch.Alone.{when-done}

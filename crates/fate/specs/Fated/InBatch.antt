@@ -1,9 +1,8 @@
 -- The fates of the Sectors of a batch.
 -- Assumes nothing.
-use mathlib.Core.Path.{_≡_, refl, _∙_}
+use mathlib.Core.Path.{refl, _∙_}
 use mathlib.Core.List.{List, [], _∷_}
 use Prim.Native.Nat.{ℕ, _<_}
-use lib.ListN.{length}
 use Rattle.outcome.specs.Say.{done}
 use Rattle.sector.specs.Layout.{zeros}
 use Rattle.sector.specs.Layout.Zeros.{length-zeros}

@@ -1,7 +1,7 @@
 -- `reporting::turns` meets its contract. The invariant: the report goes on, and so many Sectors are counted; each turn counts more, and
 -- nothing else ends it early (`Reaching`).
 -- Assumes nothing.
-use mathlib.Core.Path.{_≡_, refl, sym, _∙_, subst}
+use mathlib.Core.Path.{_≡_, sym, _∙_, subst}
 use mathlib.Core.Bool.{false}
 use Prim.Native.Nat.{ℕ, _≤_, _-_}
 use native.Mathlib.Omega.{arith}

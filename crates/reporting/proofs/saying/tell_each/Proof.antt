@@ -4,7 +4,7 @@
 use Prim.Native.Nat.{_-_}
 use native.Mathlib.Omega.{arith}
 use borrow.Author.Needs.{needs}
-use Rattle.reporting.proofs.Telling.{nothing, none-told, Telling, telling-none, as-many, at-most, telling-all, due, telling-more, telling-ends}
+use Rattle.reporting.proofs.Telling.{nothing, none-told, Telling, telling-none, at-most, telling-all, due, telling-more, telling-ends}
 use Rattle.reporting.proofs.saying.tell_each.Statement.{statement}
 use Rattle.reporting.proofs.saying.tell_each.Tie as tie
 
