@@ -1,4 +1,5 @@
 pub mod Verdicts
 pub mod Parities
+pub mod Batches
 pub mod Once
 pub mod NeverEight
