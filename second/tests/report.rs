@@ -4,7 +4,8 @@
 use second::report::report;
 use second::sector::{write, LENGTH};
 use std::fs::{self, File, OpenOptions};
-use std::io::Write;
+use std::io::{Seek, SeekFrom, Write};
+use std::os::fd::AsRawFd;
 use std::path::{Path, PathBuf};
 use std::process::{Child, Command, Output, Stdio};
 use std::thread;
@@ -68,12 +69,63 @@ fn short_reads_change_nothing() {
     assert_eq!(text(&output.stderr), "");
 }
 
+/// Sectors around the sixteen that are read at once, with and without a tail.
+#[test]
+fn reads_of_sixteen_sectors_leave_none_out() {
+    let image = fs::read(crates().join("report_many/stdin")).expect("stored input");
+    for count in [1, 2, 15, 16, 17, 31, 32, 33, 48] {
+        for tail in [0, 1, LENGTH - 1] {
+            let bytes = image[3 * LENGTH..][..count * LENGTH + tail].to_vec();
+            let expected = report(&bytes);
+            let output = fed(move |pipe| pipe.write_all(&bytes).expect("the program reads on"));
+            assert_eq!(text(&output.stdout), expected);
+            assert_eq!(text(&output.stderr), "");
+        }
+    }
+}
+
 #[test]
 fn a_folder_cannot_be_read() {
     let folder = File::open(crates()).expect("a folder opens");
     let output = program().stdin(folder).output().expect("the program runs");
     assert_eq!(text(&output.stdout), "cd sectors 1\n");
     assert_eq!(text(&output.stderr), "report: standard input could not be read\n");
+}
+
+/// Standard input that fails behind these bytes: this process's memory, where a file is mapped that ends with them.
+fn failing_behind(bytes: &[u8]) -> File {
+    const PAGES: usize = 1 << 16;
+    extern "C" {
+        fn mmap(at: usize, length: usize, read: i32, private: i32, file: i32, from: i64) -> usize;
+    }
+    let padding = bytes.len().next_multiple_of(PAGES) - bytes.len();
+    let name = format!("failing-{}-{}.bin", std::process::id(), bytes.len());
+    let path = std::env::temp_dir().join(name);
+    fs::write(&path, [vec![0; padding].as_slice(), bytes].concat()).expect("a file");
+    let file = File::open(&path).expect("it opens");
+    fs::remove_file(&path).expect("it goes");
+    let length = padding + bytes.len() + PAGES;
+    let at = unsafe { mmap(0, length, 1, 2, file.as_raw_fd(), 0) };
+    assert_ne!(at, usize::MAX, "a file is mapped");
+    let mut memory = File::open("/proc/self/mem").expect("memory opens");
+    memory.seek(SeekFrom::Start((at + padding) as u64)).expect("it has places");
+    memory
+}
+
+/// The lines of all whole Sectors that came before a read that failed, and no last line.
+#[test]
+fn a_read_that_fails_between_sectors() {
+    let image = fs::read(crates().join("report_many/stdin")).expect("stored input");
+    for count in [0, 1, 15, 16, 17, 40] {
+        for rest in [0, 5, LENGTH - 1] {
+            let bytes = &image[..count * LENGTH + rest];
+            let whole = report(bytes);
+            let lines: Vec<&str> = whole.split_inclusive('\n').take(1 + count).collect();
+            let output = program().stdin(failing_behind(bytes)).output().expect("the program runs");
+            assert_eq!(text(&output.stdout), lines.concat(), "{count} Sectors and {rest} bytes");
+            assert_eq!(text(&output.stderr), "report: standard input could not be read\n");
+        }
+    }
 }
 
 #[test]
