@@ -5,12 +5,14 @@ mod repair;
 use crate::codeword::{fill, is_codeword};
 use crate::edc;
 use crate::refusal::{clear, Refusal, Refusal::*};
-pub use repair::repair;
+pub use repair::{repair, repair_many};
 
 pub const LENGTH: usize = 2352;
 pub const SYNC: [u8; 12] = [0, 255, 255, 255, 255, 255, 255, 255, 255, 255, 255, 0];
 pub const P_CODEWORDS: usize = 86;
 pub const Q_CODEWORDS: usize = 52;
+/// How many Sectors one call of repair takes at most.
+pub const BATCH: usize = 16;
 
 /// Bytes of user data, where the mode is one of the two that are written.
 pub fn data_length(mode: u8) -> Option<usize> {

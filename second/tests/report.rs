@@ -30,6 +30,21 @@ fn short_reads_change_nothing() {
     assert_eq!(text(&output.stderr), "");
 }
 
+/// Sectors around the sixteen that are read at once, with and without a tail.
+#[test]
+fn reads_of_sixteen_sectors_leave_none_out() {
+    let image = fs::read(at("tests/reports/many/stdin")).expect("stored input");
+    for count in [1, 2, 15, 16, 17, 31, 32, 33, 48] {
+        for tail in [0, 1, LENGTH - 1] {
+            let bytes = image[3 * LENGTH..][..count * LENGTH + tail].to_vec();
+            let expected = report(&bytes);
+            let output = fed("report", move |pipe| pipe.write_all(&bytes).expect("the program reads on"));
+            assert_eq!(text(&output.stdout), expected);
+            assert_eq!(text(&output.stderr), "");
+        }
+    }
+}
+
 #[test]
 fn a_folder_cannot_be_read() {
     let folder = File::open(at("../crates")).expect("a folder opens");

@@ -1,38 +1,32 @@
--- The ways out of `fate_of`: each answer of repair has its fate.
+-- The ways out of `fate_of` with a Sector that is handed out.
 -- Assumes nothing.
-use mathlib.Core.Path.{_≡_, refl, sym, ap, _∙_, subst}
+use mathlib.Core.Path.{_≡_, sym, ap, _∙_}
 use mathlib.Core.List.{List}
 use Prim.Native.Nat.{ℕ}
 use borrow.Author.Tests.{eq-eqb, ne-eqb}
-use Rattle.sector.specs.Layout.{timeOf, zeros}
-use Rattle.repair.specs.Repair.{Repairs, sayOf}
+use lib.ListN.{getD}
+use Rattle.address.specs.declared.HeaderTime.{HeaderTime}
+use Rattle.sector.specs.Layout.{timeOf}
+use Rattle.repair.specs.Repair.{sayOf}
 use Rattle.repair.specs.declared.Repaired.{Repaired}
-use Rattle.repair.specs.declared.Repaired.the-variants.{HandedOut, WrongIncoming, WrongOutgoing, NoSectorNear}
-use Rattle.text.specs.declared.Fate.{Fate}
+use Rattle.repair.specs.declared.Repaired.the-variants.{HandedOut}
 use Rattle.text.specs.declared.Fate.the-variants as fates
-use Rattle.fate.specs.Fated.{fateFrom, Fated}
+use Rattle.fate.specs.Fated.{fateFrom}
 
-module _ (r b new : List ℕ) (a : Repaired) (blank : b ≡ zeros 2352) (h : Repairs r b (sayOf a) new) where
-  fated : (f : Fate) (x : Repaired) → a ≡ x → f ≡ fateFrom (sayOf x) new → Fated r f
-  fated f x e q =
-      record {
-        say = sayOf a;
-        handed = new;
-        repairs = subst (λ (o : List ℕ). Repairs r o (sayOf a) new) blank h;
-        is = q ∙ ap (λ (y : Repaired). fateFrom (sayOf y) new) (sym e);
-      }
+module _ (s : List ℕ) (a : Repaired) (t : HeaderTime) (p : t .0 ≡ getD s 12 0) (q : t .1 ≡ getD s 13 0) (r : t .2 ≡ getD s 14 0) (n : ℕ)
+    (e : a ≡ HandedOut n) where
+  time : t ≡ timeOf s
+  time = λ i. record { 0 = p i; 1 = q i; 2 = r i }
 
-  pub on-clean : (n : ℕ) → a ≡ HandedOut n → n ≡ 0 → Fated r (fates.Clean (timeOf new))
-  on-clean n e z = fated (fates.Clean (timeOf new)) (HandedOut n) e (simp (eq-eqb n 0 z))
+  answered : fateFrom (sayOf (HandedOut n)) s ≡ fateFrom (sayOf a) s
+  answered = ap (λ (y : Repaired). fateFrom (sayOf y) s) (sym e)
 
-  pub on-repaired : (n : ℕ) → a ≡ HandedOut n → (n ≡ 0 → ⊥) → Fated r (fates.Repaired (timeOf new) n)
-  on-repaired n e z = fated (fates.Repaired (timeOf new) n) (HandedOut n) e (simp (ne-eqb n 0 z))
+  pub on-clean : n ≡ 0 → fates.Clean t ≡ fateFrom (sayOf a) s
+  on-clean m =
+      let c : fates.Clean (timeOf s) ≡ fateFrom (sayOf (HandedOut n)) s = simp (eq-eqb n 0 m) in
+      ap (λ (u : HeaderTime). fates.Clean u) time ∙ c ∙ answered
 
-  pub on-incoming : a ≡ WrongIncoming → Fated r (fates.Refused 1)
-  on-incoming e = fated (fates.Refused 1) WrongIncoming e refl
-
-  pub on-outgoing : a ≡ WrongOutgoing → Fated r (fates.Refused 2)
-  on-outgoing e = fated (fates.Refused 2) WrongOutgoing e refl
-
-  pub on-none : a ≡ NoSectorNear → Fated r (fates.Refused 5)
-  on-none e = fated (fates.Refused 5) NoSectorNear e refl
+  pub on-repaired : (n ≡ 0 → ⊥) → fates.Repaired t n ≡ fateFrom (sayOf a) s
+  on-repaired m =
+      let c : fates.Repaired (timeOf s) n ≡ fateFrom (sayOf (HandedOut n)) s = simp (ne-eqb n 0 m) in
+      ap (λ (u : HeaderTime). fates.Repaired u n) time ∙ c ∙ answered

@@ -11,6 +11,7 @@ use Rattle.repair.specs.Repair.{Repairs}
 use Rattle.text.specs.declared.Fate.{Fate}
 use Rattle.text.specs.declared.Fate.the-variants.{Clean, Repaired, Refused}
 pub mod One
+pub mod InBatch
 
 -- Clean means none changed; with a Sector come bytes 12 to 14 of what is handed out, with a refusal its number
 abbrev pub fateFrom : Say → List ℕ → Fate

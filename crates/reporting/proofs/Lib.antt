@@ -1,2 +1,4 @@
 pub mod Steps
+pub mod Telling
+pub mod Reaching
 pub mod Ends

@@ -1,2 +1,4 @@
-pub mod Reading
+-- the run of a report
 pub mod Run
+-- contracts of private functions
+pub mod Inner

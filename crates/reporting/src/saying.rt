@@ -1,14 +1,16 @@
 // Printing. Only `print` writes to standard output, only `say` calls it, and `say` asks that the report has this line where it stands.
 ghost use mathlib.Core.Path.{_≡_};
-ghost use Prim.Native.Nat.{_≤_, _<_};
-ghost use lib.ListN.{length};
+ghost use Prim.Native.Nat.{_≤_};
 ghost use Rattle.text.specs.Counting.{largest};
 ghost use Rattle.text.specs.Line.{written};
-ghost use Rattle.reporting.specs.Run.{Step, Goes, Tells, afterLine, Turning, Reported};
+ghost use Rattle.reporting.specs.Run.{Step, Goes, afterLine, Turning, Reported};
+ghost use Rattle.reporting.specs.Inner.Turn.{Says, counted, Due, Some, sectorsIn, Told};
 use crate::Progress;
 use crate::Stand;
+use batch::Answer;
 use libc::STDOUT_FILENO;
 use text::Counts;
+use text::Fate;
 use text::Text;
 
 // Writes a line, and says whether all of it went out.
@@ -36,40 +38,54 @@ fn after_line(went: bool, counts: Counts, next: Progress) -> Progress
 // Prints the line that leads from here to `next`.
 fn say(stand: Stand, counts: Counts, line: Text, next: Progress) -> Progress
     requires { ⌜ (line .len ≤ 96) × Step stand counts (written line) (next .stand) (next .counts) ⌝ }
-    ensures { λ r. ⌜ Goes stand counts (r .stand) (r .counts) ⌝ }
+    ensures { λ r. ⌜ Says stand counts next r ⌝ }
 {
     after_line(print(line), counts, next)
 }
 
-// The line of a Sector, and the counts after it.
-struct Told {
-    line: Text,
-    counts: Counts,
-}
-
-fn line_of(counts: Counts, sector: &[u8]) -> Told
-    ensures { λ r. ⌜ Tells counts (now (sector .entry)) (r .line) (r .counts) ⌝ }
+// Prints the line of a Sector with this fate and counts it.
+fn tell(counts: Counts, fate: Fate) -> Progress
+    requires { ⌜ Due counts fate ⌝ }
+    ensures { λ r. ⌜ Says Stand.Going counts (counted counts fate) r ⌝ }
 {
-    let fate = fate::fate_of(sector);
-    Told {
-        line: text::fate_line(counts.sectors, fate),
-        counts: counts.counted(fate),
-    }
-}
-
-// Prints the line of a Sector and counts it.
-pub(crate) fn tell(counts: Counts, sector: &[u8]) -> Progress
-    requires { ⌜ (length (now sector) ≡ 2352) × (counts .sectors < largest) ⌝ }
-    ensures { λ r. ⌜ Goes Stand.Going counts (r .stand) (r .counts) ⌝ }
-{
-    let told = line_of(counts, sector);
-    let line = told.line;
-    let counted = told.counts;
+    let line = text::fate_line(counts.sectors, fate);
     let next = Progress {
-        counts: counted,
+        counts: counts.counted(fate),
         stand: Stand::Going,
     };
     say(Stand::Going, counts, line, next)
+}
+
+// Repairs the whole Sectors that came, at most sixteen, and prints the line of each, in order.
+pub(crate) fn tell_each(counts: Counts, received: &[u8], out: &mut [u8]) -> Progress
+    requires { ⌜ Some counts (now received) (now out) ⌝ }
+    ensures { λ r. ⌜ Told (sectorsIn (now (received .entry))) (now (received .entry)) counts Stand.Going r ⌝ }
+{
+    let mut progress = Progress {
+        counts,
+        stand: Stand::Going,
+    };
+    let batch = batch::repair_many(received, out);
+    let answer = batch.answer;
+    let Answer::Done(n) = answer else {
+        return progress;
+    };
+    let fates = batch.fates;
+    let mut i: usize = 0;
+    while i < n {
+        let at = 2352 * i;
+        let one = fates[i];
+        let repaired = one.repaired;
+        let fate = fate::fate_of(repaired, &out[at..at + 2352]);
+        let before = progress.counts;
+        progress = tell(before, fate);
+        let stand = progress.stand;
+        let Stand::Going = stand else {
+            return progress;
+        };
+        i += 1;
+    }
+    progress
 }
 
 // Prints the first line.

@@ -1,6 +1,8 @@
 //! Sectors, scrambling and F1-frames.
 
-use super::{told, Told};
+use super::{told, told_of, Told};
+use crate::refusal::Refusal;
+use crate::sector::BATCH;
 
 extern "C" {
     fn road_write(
@@ -21,6 +23,15 @@ extern "C" {
         out_length: usize,
         changed: *mut [u64; 1],
     ) -> u8;
+    fn road_repair_many(
+        received: *const u8,
+        length: usize,
+        out: *mut u8,
+        out_length: usize,
+        count: *mut [u64; 1],
+        numbers: *mut [u64; BATCH],
+        changed: *mut [u64; BATCH],
+    ) -> u8;
     fn road_scramble(sector: *const u8, length: usize, out: *mut u8, out_length: usize) -> u8;
     fn road_cut(scrambled: *const u8, length: usize, out: *mut u8, out_length: usize) -> u8;
     fn road_join(frames: *const u8, length: usize, out: *mut u8, out_length: usize) -> u8;
@@ -40,6 +51,36 @@ pub fn repair(received: &[u8], out: &mut [u8]) -> Told<1> {
     let (received, length) = (received.as_ptr(), received.len());
     let (out, out_length) = (out.as_mut_ptr(), out.len());
     told(|changed| unsafe { road_repair(received, length, out, out_length, changed) })
+}
+
+/// What a batch is answered with: how many Sectors it has, and a fate for each of sixteen.
+#[derive(Clone, Copy, Debug, PartialEq, Eq)]
+pub struct Batch {
+    pub answer: Told<1>,
+    pub fates: [Told<1>; BATCH],
+}
+
+pub fn repair_many(received: &[u8], out: &mut [u8]) -> Batch {
+    let (mut numbers, mut changed) = ([u64::MAX; BATCH], [u64::MAX; BATCH]);
+    let (received, length) = (received.as_ptr(), received.len());
+    let (out, out_length) = (out.as_mut_ptr(), out.len());
+    let answer = told(|count| unsafe {
+        road_repair_many(received, length, out, out_length, count, &mut numbers, &mut changed)
+    });
+    let number = |n: usize| u8::try_from(numbers[n]).expect("a number of document 01");
+    Batch {
+        answer,
+        fates: std::array::from_fn(|n| Told { number: number(n), values: [changed[n]] }),
+    }
+}
+
+/// A batch of this program as the proved code tells it; where there is no Sector stands the refusal 1.
+pub fn told_batch(answer: Result<Vec<Result<usize, Refusal>>, Refusal>) -> Batch {
+    let mut fates = [told_of(Err::<usize, _>(Refusal::WrongIncoming), |n| vec![n]); BATCH];
+    for (place, &fate) in fates.iter_mut().zip(answer.iter().flatten()) {
+        *place = told_of(fate, |count| vec![count]);
+    }
+    Batch { answer: told_of(answer, |sectors| vec![sectors.len()]), fates }
 }
 
 pub fn scramble(sector: &[u8], out: &mut [u8]) -> u8 {

@@ -32,3 +32,18 @@ pub fn repair(received: &[u8], out: &mut [u8]) -> Result<usize, Refusal> {
     out.copy_from_slice(&sector);
     Ok((0..LENGTH).filter(|&at| received[at] != sector[at]).count())
 }
+
+/// Document 02, 2: 1 to 16 Sectors, each as if it came alone. Refusals 1, 2, at which nothing is touched.
+pub fn repair_many(
+    received: &[u8],
+    out: &mut [u8],
+) -> Result<Vec<Result<usize, Refusal>>, Refusal> {
+    let sectors = received.chunks_exact(LENGTH);
+    if !sectors.remainder().is_empty() || !(1..=BATCH).contains(&sectors.len()) {
+        return Err(WrongIncoming);
+    }
+    if out.len() != received.len() {
+        return Err(WrongOutgoing);
+    }
+    Ok(sectors.zip(out.chunks_exact_mut(LENGTH)).map(|(one, place)| repair(one, place)).collect())
+}

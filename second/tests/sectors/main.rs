@@ -1,5 +1,6 @@
 //! Sectors held against the proved code: both sides from buffers that held (AA), the same answer and the same bytes.
 
+mod batches;
 mod damaged;
 mod refusals;
 

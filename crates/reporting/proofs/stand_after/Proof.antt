@@ -2,7 +2,7 @@
 -- Assumes nothing.
 use mathlib.Core.Path.{sym, ap}
 use borrow.Author.Needs.{needs}
-use Rattle.reporting.specs.Reading.{standOf}
+use Rattle.reporting.specs.Run.{standOf}
 use Rattle.reporting.proofs.stand_after.Statement.{statement}
 use Rattle.reporting.proofs.stand_after.Tie as tie
 
@@ -19,7 +19,7 @@ returns : tie.Need-returns
 returns c = sym (ap (standOf (c .before .before .args .filled .have)) (c .enum-told .given .1))
 
 returns-2 : tie.Need-returns-2
-returns-2 c = sym (ap (standOf (c .before .before .args .filled .have)) (c .enum-told2 .given .1))
+returns-2 c = sym (ap (standOf (c .before .before .before .args .filled .have)) (c .before .enum-told2 .given .1))
 
 returns-3 : tie.Need-returns-3
 returns-3 c = sym (ap (standOf (c .before .before .args .filled .have)) (c .enum-told3 .given .1))

@@ -1,62 +1,71 @@
--- `reporting::turns` meets its contract: after so many turns that many Sectors are counted if the report goes on, and nothing else ends
--- it early. Each turn is one step (`Steps`).
+-- `reporting::turns` meets its contract. The invariant: the report goes on, and so many Sectors are counted; each turn counts more, and
+-- nothing else ends it early (`Reaching`).
 -- Assumes nothing.
 use mathlib.Core.Path.{_≡_, sym, _∙_, subst}
+use mathlib.Core.Bool.{false}
 use Prim.Native.Nat.{ℕ, _≤_, _-_}
 use native.Mathlib.Omega.{arith}
 use borrow.Author.Needs.{needs}
 use lib.ListN.{length}
 use Rattle.text.specs.Counting.{largest}
-use Rattle.reporting.specs.Run.{Turning}
-use Rattle.reporting.proofs.Steps.{so-many, turned, turned-over}
+use Rattle.reporting.specs.Run.{isOver, Turning}
+use Rattle.reporting.proofs.Steps.{turned-over}
+use Rattle.reporting.proofs.Reaching.{ends-there, goes-on}
 use Rattle.reporting.proofs.turns.Statement.{statement}
 use Rattle.reporting.proofs.turns.Tie as tie
 
 abbrev Inv-loop : tie.InvT-loop
-Inv-loop sector₀ progress₀ made₀ sector progress made = (made ≤ largest) × Turning made progress × (length sector ≡ 2352)
+Inv-loop progress₀ received₀ out₀ sectors₀ progress received out sectors =
+    (sectors ≤ largest) × Turning sectors progress × (isOver (progress .stand) ≡ false) × (length received ≡ 37632) × (length out ≡ 37632)
 
 abbrev μ-loop : tie.MeasureT-loop
-μ-loop sector₀ progress₀ made₀ sector progress made = largest - made
-
-blank-requires : tie.Need-blank-requires Inv-loop μ-loop
-blank-requires c κs = search needs
-
-loop-holds : tie.Need-loop-holds Inv-loop μ-loop
-loop-holds c = (omega arith, c .before .pre, search needs)
+μ-loop progress₀ received₀ out₀ sectors₀ progress received out sectors = largest - sectors
 
 over-requires : tie.Need-over-requires Inv-loop μ-loop
 over-requires c κs = search needs
 
 returns : tie.Need-returns Inv-loop μ-loop
-returns c =
-    let l = c .before .before .before .loop in
-    turned-over (l .made) largest (l .progress) (sym (c .before .over .ensures) ∙ c .if1 .taken) (l .inv .1)
+returns c = turned-over 0 largest (c .before .before .args .opened) (sym (c .before .over .ensures) ∙ c .if1 .taken) (c .before .before .pre)
+
+loop-holds : tie.Need-loop-holds Inv-loop μ-loop
+loop-holds c = (omega arith, c .before .before .pre, sym (c .before .over .ensures) ∙ c .if1 .left, search needs, search needs)
 
 slice-aggregate-turn : tie.Need-slice-aggregate-turn Inv-loop μ-loop
-slice-aggregate-turn c = sym (c .before .before .before .before .before .loop .inv .2)
+slice-aggregate-turn c = sym (c .before .before .before .loop .inv .3)
+
+slice-aggregate-turn-2 : tie.Need-slice-aggregate-turn-2 Inv-loop μ-loop
+slice-aggregate-turn-2 c = sym (c .before .before .before .before .loop .inv .4)
 
 turn-requires : tie.Need-turn-requires Inv-loop μ-loop
-turn-requires c κs =
-    let l = c .before .before .before .before .before .loop in
-    let e = sym (c .before .before .before .over .ensures) ∙ c .before .before .if1 .left in
-    (l .inv .2, omega (arith, so-many (l .made) (l .progress) e (l .inv .1)))
+turn-requires c κs = (c .before .before .before .before .loop .inv .3, c .before .before .before .before .loop .inv .4)
 
-add-made : tie.Need-add-made Inv-loop μ-loop
-add-made c = search needs
-
-loop-less : tie.Need-loop-less Inv-loop μ-loop
-loop-less c = search needs
-
-loop-again : tie.Need-loop-again Inv-loop μ-loop
-loop-again c =
-    let l = c .before .before .before .before .before .before .before .loop in
-    let e = sym (c .before .before .before .before .before .over .ensures) ∙ c .before .before .before .before .if1 .left in
-    (omega arith, turned (l .made) (l .progress) (c .before .turn .result) e (l .inv .1) (c .before .turn .ensures), c .before .turn .kept .1 .0 ∙ l .inv .2)
+over-requires-2 : tie.Need-over-requires-2 Inv-loop μ-loop
+over-requires-2 c κs = search needs
 
 returns-2 : tie.Need-returns-2 Inv-loop μ-loop
 returns-2 c =
+    let l = c .before .before .before .before .before .before .before .before .before .loop in
+    let t = c .before .before .before .before .turn in
+    ends-there (l .sectors) (l .progress) (t .result) (l .inv .2) (l .inv .1) (c .before .before .before .before .before .before .before .before .loop-test .taken) (t .ensures) (sym (c .before .over2 .ensures) ∙ c .if2 .taken)
+
+loop-less : tie.Need-loop-less Inv-loop μ-loop
+loop-less c =
+    let l = c .before .before .before .before .before .before .before .before .before .before .loop in
+    let t = c .before .before .before .before .before .turn in
+    omega (arith, goes-on (l .sectors) (l .progress) (t .result) (l .inv .2) (l .inv .1) (c .before .before .before .before .before .before .before .before .before .loop-test .taken) (t .ensures) (sym (c .before .before .over2 .ensures) ∙ c .before .if2 .left))
+
+loop-again : tie.Need-loop-again Inv-loop μ-loop
+loop-again c =
+    let l = c .before .before .before .before .before .before .before .before .before .before .loop in
+    let t = c .before .before .before .before .before .turn in
+    let o = sym (c .before .before .over2 .ensures) ∙ c .before .if2 .left in
+    let g = goes-on (l .sectors) (l .progress) (t .result) (l .inv .2) (l .inv .1) (c .before .before .before .before .before .before .before .before .before .loop-test .taken) (t .ensures) o in
+    (g .1, g .2, o, t .kept .1 .0 ∙ l .inv .3, t .kept .1 .1 .0 ∙ l .inv .4)
+
+returns-3 : tie.Need-returns-3 Inv-loop μ-loop
+returns-3 c =
     let l = c .before .loop in
-    let all : l .made ≡ largest = omega (arith, l .inv .0) in
+    let all : l .sectors ≡ largest = omega (arith, l .inv .0) in
     subst (λ (n : ℕ). Turning n (l .progress)) all (l .inv .1)
 
 pub turns-spec : {M : Type 1} → statement M
@@ -65,13 +74,14 @@ turns-spec =
     (tie.spec
     Inv-loop
     μ-loop
-    blank-requires
-    loop-holds
     over-requires
     returns
+    loop-holds
     slice-aggregate-turn
+    slice-aggregate-turn-2
     turn-requires
-    add-made
+    over-requires-2
+    returns-2
     loop-less
     loop-again
-    returns-2)
+    returns-3)

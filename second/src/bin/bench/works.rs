@@ -4,7 +4,7 @@ use crate::{Crc, Work};
 use second::channel::*;
 use second::proved;
 use second::random::Random;
-use second::sector::{p_positions, P_CODEWORDS};
+use second::sector::{p_positions, BATCH, LENGTH, P_CODEWORDS};
 use std::hint::black_box;
 
 /// The unit first, then what is held against it.
@@ -60,11 +60,36 @@ fn sectors() -> Vec<Work> {
         }
     };
     let each = repair(damaged, P_CODEWORDS as u64);
+    let [at_once, one_by_one] = sixteen(&clean);
     vec![
         Work::new("write a Sector of Mode 01", Some(1.6), write),
         Work::new("judge it", None, judge),
         Work::new("repair it, clean", Some(1.6), repair(clean, 0)),
         Work::new("repair it, a wrong byte in each P codeword", Some(5.0), each),
+        at_once,
+        one_by_one,
+    ]
+}
+
+/// Sixteen times a clean Sector, in one call and in sixteen.
+fn sixteen(clean: &[u8]) -> [Work; 2] {
+    let received = clean.repeat(BATCH);
+    let mut out = vec![0; received.len()];
+    let sectors = received.clone();
+    let mut places = out.clone();
+    let at_once = move || {
+        let batch = proved::repair_many(black_box(&received), black_box(&mut out));
+        assert_eq!((batch.answer.number, batch.answer.values), (0, [BATCH as u64]));
+    };
+    let one_by_one = move || {
+        for (sector, place) in sectors.chunks(LENGTH).zip(places.chunks_mut(LENGTH)) {
+            let answer = proved::repair(black_box(sector), black_box(place));
+            assert_eq!((answer.number, answer.values), (0, [0]));
+        }
+    };
+    [
+        Work::new("repair 16 clean Sectors in one call", Some(16.0 * 1.6), at_once),
+        Work::new("repair 16 clean Sectors in 16 calls", None, one_by_one),
     ]
 }
 

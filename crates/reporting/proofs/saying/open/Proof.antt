@@ -17,7 +17,7 @@ say-requires : tie.Need-say-requires
 say-requires c κs = sayable firstLine _ (c .first-line .ensures) (openable _ (c .before .none .ensures))
 
 returns : tie.Need-returns
-returns c = opened _ (c .say .result) (c .before .before .none .ensures) (c .say .ensures)
+returns c = opened _ (c .say .result) (c .before .before .none .ensures) (c .say .ensures .goes)
 
 pub open-spec : {M : Type 1} → statement M
 open-spec = tie.close (tie.spec none-requires first-line-requires say-requires returns)
