@@ -1,6 +1,6 @@
-//! ECMA-130, clause 17 and Annex C; document 01, CIRC: the writer and the reader, over whole histories.
+//! ECMA-130, clause 17 and Annex C; document 01, CIRC; document 02, 7: the writer and the reader, over whole histories.
 
-use crate::codeword::{fill, nearest};
+use crate::codeword::{agreeing, fill, nearest};
 use crate::refusal::{clear, Refusal, Refusal::*};
 
 /// The byte of the F1-frame in each of the 28 rows before C1; rows 12 to 15 have none.
@@ -89,10 +89,26 @@ impl CircWriter {
     }
 }
 
+/// What a code hands on of a word, and whether that is the word as it came because no codeword was found. Without marks the
+/// codeword near the word is sought, with 1 to `most` marks the one that agrees with it on all unmarked bytes.
+fn handed_on(word: Vec<u8>, lost: &[u8], most: usize) -> (Vec<u8>, bool) {
+    let marked: Vec<usize> = (0..word.len()).filter(|&row| lost[row] != 0).collect();
+    let found = match marked.len() {
+        0 => nearest(&word, 4),
+        count if count <= most => agreeing(&word, &marked, 4),
+        _ => None,
+    };
+    let unfound = found.is_none();
+    (found.unwrap_or(word), unfound)
+}
+
+/// Each history of bytes has one of their marks beside it: 1 for a lost byte, else 0.
 #[derive(Clone, Debug, Default, PartialEq, Eq)]
 pub struct CircReader {
     f2: History,
+    f2_lost: History,
     after_c1: History,
+    after_c1_lost: History,
     after_c2: History,
 }
 
@@ -105,23 +121,29 @@ impl CircReader {
         CircReader::default()
     }
 
-    /// 32 bytes in, 24 out, and the doubt mark. Refusals 1, 2.
-    pub fn step(&mut self, frame: &[u8], out: &mut [u8]) -> Result<bool, Refusal> {
+    /// 32 bytes and 32 marks in, of which 1 and 4 say that a byte is lost; 24 bytes out, and the doubt mark. Refusals 1, 2.
+    pub fn step(&mut self, frame: &[u8], marks: &[u8], out: &mut [u8]) -> Result<bool, Refusal> {
         clear(out, 24);
-        if frame.len() != 32 {
+        if frame.len() != 32 || marks.len() != 32 {
             return Err(WrongIncoming);
         }
         if out.len() != 24 {
             return Err(WrongOutgoing);
         }
         self.f2.push((0..32).map(|row| turned(row, frame[row])).collect());
-        let c1: Vec<u8> =
-            (0..32).map(|row| self.f2.byte(if row % 2 == 0 { 0 } else { 1 }, row)).collect();
-        self.after_c1.push(nearest(&c1, 4).unwrap_or(c1));
-        let c2: Vec<u8> = (0..28).map(|row| self.after_c1.byte(4 * (27 - row), row)).collect();
-        let near = nearest(&c2, 4);
-        let doubt = near.is_none() as u8;
-        self.after_c2.push([near.unwrap_or(c2), vec![doubt]].concat());
+        self.f2_lost.push(marks.iter().map(|mark| matches!(mark, 1 | 4) as u8).collect());
+        let wait = |row: usize| row % 2;
+        let c1 = (0..32).map(|row| self.f2.byte(wait(row), row)).collect();
+        let c1_lost: Vec<u8> = (0..32).map(|row| self.f2_lost.byte(wait(row), row)).collect();
+        let (word, lost) = handed_on(c1, &c1_lost, 2);
+        self.after_c1.push(word);
+        self.after_c1_lost.push(vec![lost as u8; 28]);
+        let wait = |row: usize| 4 * (27 - row);
+        let c2 = (0..28).map(|row| self.after_c1.byte(wait(row), row)).collect();
+        let c2_lost: Vec<u8> = (0..28).map(|row| self.after_c1_lost.byte(wait(row), row)).collect();
+        let (mut word, lost) = handed_on(c2, &c2_lost, 4);
+        word.push(lost as u8);
+        self.after_c2.push(word);
         for (row, byte) in F1_BYTE.iter().enumerate() {
             if let Some(byte) = byte {
                 out[*byte] = self.after_c2.byte(if row < 12 { 0 } else { 2 }, row);

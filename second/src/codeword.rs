@@ -1,4 +1,5 @@
-//! ECMA-130, Annexes A.3 and C.7: the check sums of a codeword, the codeword near a word, and parity.
+//! ECMA-130, Annexes A.3 and C.7; document 02, 7: the check sums of a codeword, the codeword near a word, the one that agrees
+//! with a word but for lost bytes, and parity.
 
 use crate::field::{inverse, power, product};
 
@@ -61,30 +62,49 @@ pub fn nearest(word: &[u8], sums: usize) -> Option<Vec<u8>> {
     Some(near)
 }
 
-/// Sets `count` successive bytes so that as many sums are 0, by elimination. No rows need be exchanged: the weights are
-/// the powers of `count` different bytes, and so are those of the first rows and columns.
-pub fn fill(word: &mut [u8], start: usize, count: usize) {
-    let places = start..start + count;
-    word[places.clone()].fill(0);
+/// The codeword that agrees with the word at all but the marked places, as many of which as there are sums it has at most. The
+/// marked bytes are the unknowns of one equation for each sum: they are eliminated one after the other, and what an equation
+/// without any of them says must hold.
+pub fn agreeing(word: &[u8], marked: &[usize], sums: usize) -> Option<Vec<u8>> {
+    let mut filled = word.to_vec();
+    marked.iter().for_each(|&place| filled[place] = 0);
     let mut rows: Vec<Vec<u8>> = Vec::new();
-    for j in 0..count {
-        let mut row: Vec<u8> = places.clone().map(|place| weight(j, place, word.len())).collect();
-        row.push(sum(j, word));
+    for j in 0..sums {
+        let mut row: Vec<u8> = marked.iter().map(|&place| weight(j, place, word.len())).collect();
+        row.push(sum(j, &filled));
         rows.push(row);
     }
-    for column in 0..count {
-        let by = inverse(rows[column][column]).expect("the weights differ");
-        let pivot: Vec<u8> = rows[column].iter().map(|&x| product(x, by)).collect();
-        for (j, row) in rows.iter_mut().enumerate() {
-            let times = row[column];
-            for (x, &p) in row.iter_mut().zip(&pivot) {
-                *x = if j == column { p } else { *x ^ product(p, times) };
-            }
+    for column in 0..marked.len() {
+        let pivot = (column..sums).find(|&j| rows[j][column] != 0).expect("the weights differ");
+        rows.swap(column, pivot);
+        eliminate(&mut rows, column);
+    }
+    if rows[marked.len()..].iter().any(|row| row[marked.len()] != 0) {
+        return None;
+    }
+    for (row, &place) in rows.iter().zip(marked) {
+        filled[place] = row[marked.len()];
+    }
+    Some(filled)
+}
+
+/// The row of a column's own number becomes 1 in it, and is taken out of all others.
+fn eliminate(rows: &mut [Vec<u8>], column: usize) {
+    let by = inverse(rows[column][column]).expect("it isn't 0");
+    let pivot: Vec<u8> = rows[column].iter().map(|&x| product(x, by)).collect();
+    for (j, row) in rows.iter_mut().enumerate() {
+        let times = row[column];
+        for (x, &p) in row.iter_mut().zip(&pivot) {
+            *x = if j == column { p } else { *x ^ product(p, times) };
         }
     }
-    for (row, place) in rows.iter().zip(places) {
-        word[place] = row[count];
-    }
+}
+
+/// Sets `count` successive bytes so that as many sums are 0: as many unknowns as equations always fit.
+pub fn fill(word: &mut [u8], start: usize, count: usize) {
+    let places: Vec<usize> = (start..start + count).collect();
+    let filled = agreeing(word, &places, count).expect("as many bytes as sums");
+    word.copy_from_slice(&filled);
 }
 
 #[cfg(test)]

@@ -7,7 +7,7 @@ use second::random::Random;
 const FRAMES: usize = 2_000;
 const LATE: usize = 111;
 
-/// The bytes that come in, and the length of the buffer that is lent.
+/// The bytes that come in, for the reader a frame and its marks behind it, and the length of the buffer that is lent.
 type Step = (Vec<u8>, usize);
 type ProvedRun = fn(&[u8], &mut [u8], &mut [u8]);
 
@@ -41,9 +41,10 @@ fn written(steps: &[Step]) -> (Vec<[u8; 2]>, Vec<Vec<u8>>) {
 
 fn read(steps: &[Step]) -> (Vec<[u8; 2]>, Vec<Vec<u8>>) {
     let mut reader = CircReader::new();
-    let step = |frame: &[u8], out: &mut [u8]| {
+    let step = |incoming: &[u8], out: &mut [u8]| {
+        let (frame, marks) = incoming.split_at(incoming.len().min(32));
         let answer: Told<1> =
-            proved::told_of(reader.step(frame, out), |doubt| vec![doubt as usize]);
+            proved::told_of(reader.step(frame, marks, out), |doubt| vec![doubt as usize]);
         [answer.number, answer.values[0] as u8]
     };
     same(steps, proved::circ_read, step)
@@ -51,6 +52,15 @@ fn read(steps: &[Step]) -> (Vec<[u8; 2]>, Vec<Vec<u8>>) {
 
 fn steps(frames: &[Vec<u8>], out_length: usize) -> Vec<Step> {
     frames.iter().map(|frame| (frame.clone(), out_length)).collect()
+}
+
+/// Steps of the reader over frames with these marks.
+fn marked(frames: &[Vec<u8>], marks: &[Vec<u8>]) -> Vec<Step> {
+    frames.iter().zip(marks).map(|(frame, marks)| ([&frame[..], marks].concat(), 24)).collect()
+}
+
+fn unmarked(frames: &[Vec<u8>]) -> Vec<Step> {
+    marked(frames, &vec![vec![0; 32]; frames.len()])
 }
 
 /// 2,000 random frames, and their F2-frames.
@@ -80,7 +90,7 @@ fn zero_frames() {
 #[test]
 fn undamaged() {
     let (_, f1, f2) = frames(1);
-    let (answers, read) = read(&steps(&f2, 24));
+    let (answers, read) = read(&unmarked(&f2));
     assert_eq!(doubts(&answers), 0);
     assert!(read[..LATE] == vec![vec![0; 24]; LATE]);
     assert!(read[LATE..] == f1[..FRAMES - LATE]);
@@ -93,7 +103,7 @@ fn single_wrong_bytes() {
     for frame in f2.iter_mut().step_by(2) {
         frame[random.below(32)] ^= random.change();
     }
-    let (answers, read) = read(&steps(&f2, 24));
+    let (answers, read) = read(&unmarked(&f2));
     assert_eq!(doubts(&answers), 0);
     assert!(read[LATE..] == f1[..FRAMES - LATE]);
 }
@@ -109,7 +119,7 @@ fn bursts() {
             *frame = random.bytes(32);
         }
     }
-    let (answers, _) = read(&steps(&f2, 24));
+    let (answers, _) = read(&unmarked(&f2));
     assert!((100..FRAMES - 100).contains(&doubts(&answers)), "{}", doubts(&answers));
 }
 
@@ -123,7 +133,7 @@ fn several_wrong_bytes() {
             frame[place] ^= random.change();
         }
     }
-    read(&steps(&f2, 24));
+    read(&unmarked(&f2));
 }
 
 /// Steps with a wrong length between the others, which the others do not notice.
@@ -134,7 +144,7 @@ fn refused_steps_in_between() {
         let mut all = Vec::new();
         for frame in frames {
             while random.below(3) == 0 {
-                let incoming = [0, 1, 23, 24, 25, 31, 32, 33, 255][random.below(9)];
+                let incoming = [0, 1, 23, 24, 25, 32, 33, 63, 64, 65, 255][random.below(11)];
                 let outgoing = [0, 1, 23, 24, 25, 31, 32, 33, 255][random.below(9)];
                 if incoming != frame.len() || outgoing != right {
                     all.push((random.bytes(incoming), outgoing));
@@ -151,5 +161,83 @@ fn refused_steps_in_between() {
         pairs.filter(|(answer, _)| answer[0] == 0).map(|(_, buffer)| buffer).collect()
     };
     assert!(done(written(&with_refused(&f1, 32))) == f2);
+    let f2: Vec<Vec<u8>> = unmarked(&f2).into_iter().map(|(incoming, _)| incoming).collect();
     assert!(done(read(&with_refused(&f2, 24)))[LATE..] == f1[..FRAMES - LATE]);
+}
+
+/// No marks that say that a byte is lost, and all numbers else.
+fn other_marks(random: &mut Random) -> Vec<Vec<u8>> {
+    let mark = |random: &mut Random| loop {
+        let mark = random.byte();
+        if ![1, 4].contains(&mark) {
+            return mark;
+        }
+    };
+    (0..FRAMES).map(|_| (0..32).map(|_| mark(random)).collect()).collect()
+}
+
+/// Two lost bytes in each C1 word: one in an even row and one in an odd row of each frame. All come back.
+#[test]
+fn two_lost_bytes() {
+    let (mut random, f1, mut f2) = frames(6);
+    let mut marks = other_marks(&mut random);
+    for (frame, marks) in f2.iter_mut().zip(&mut marks) {
+        for row in [2 * random.below(16), 2 * random.below(16) + 1] {
+            frame[row] = random.byte();
+            marks[row] = [1, 4][random.below(2)];
+        }
+    }
+    let (answers, read) = read(&marked(&f2, &marks));
+    assert_eq!(doubts(&answers), 0);
+    assert!(read[LATE..] == f1[..FRAMES - LATE]);
+}
+
+/// Marks anywhere, sparse and dense in turn, with right and wrong bytes under them and beside them: some frames are in doubt, and
+/// many are not.
+#[test]
+fn marks_anywhere() {
+    let (mut random, _, mut f2) = frames(7);
+    let mut marks = other_marks(&mut random);
+    for n in 0..FRAMES {
+        let most = [1, 3, 6, 2][n / 100 % 4];
+        let count = random.below(most + 1);
+        for place in random.places(count, 32) {
+            marks[n][place] = [1, 4][random.below(2)];
+            if random.below(2) == 0 {
+                f2[n][place] = random.byte();
+            }
+        }
+        if random.below(12) == 0 {
+            f2[n][random.below(32)] ^= random.change();
+        }
+    }
+    let (answers, _) = read(&marked(&f2, &marks));
+    assert!((100..FRAMES - 100).contains(&doubts(&answers)), "{}", doubts(&answers));
+}
+
+/// Bursts of one to twenty lost frames, all their bytes marked: those of up to fifteen come back, and longer ones bring doubt.
+#[test]
+fn lost_frames_in_a_row() {
+    let (mut random, f1, f2) = frames(8);
+    for count in 1..=20 {
+        let (mut f2, mut marks) = (f2.clone(), other_marks(&mut random));
+        for n in 0..3 {
+            let start = 500 * n + random.below(200);
+            for n in start..start + count {
+                f2[n] = random.bytes(32);
+                marks[n] = vec![[1, 4][random.below(2)]; 32];
+            }
+        }
+        let (answers, read) = read(&marked(&f2, &marks));
+        assert_eq!(doubts(&answers) > 0, count > 15, "{count}");
+        assert_eq!(read[LATE..] == f1[..FRAMES - LATE], count <= 15, "{count}");
+    }
+}
+
+/// Everything is marked: nothing is filled, and all is in doubt but for the first steps.
+#[test]
+fn all_marked() {
+    let (_, _, f2) = frames(9);
+    let (answers, _) = read(&marked(&f2, &vec![vec![4; 32]; FRAMES]));
+    assert!(doubts(&answers) > FRAMES - 30, "{}", doubts(&answers));
 }

@@ -1,6 +1,6 @@
-//! Proved verdicts and parity against this program's brute force.
+//! Proved verdicts, parity and filling against this program's brute force and elimination.
 
-use second::codeword::{fill, verdict};
+use second::codeword::{agreeing, fill, verdict};
 use second::proved::{self, Told};
 use second::random::Random;
 
@@ -102,5 +102,79 @@ fn parity_at_12_of_28() {
         let found = proved::parity_at_12(&word);
         fill(&mut word, 12, 4);
         assert_eq!(found, word[12..16]);
+    }
+}
+
+/// What the proved code makes of a word with marks, where marks other than 0 say that a byte is lost, against elimination.
+fn same_filled(word: &[u8], marks: &[u8]) -> bool {
+    let marked: Vec<usize> = (0..word.len()).filter(|&place| marks[place] != 0).collect();
+    let expected = if marked.len() <= 4 { agreeing(word, &marked, 4) } else { None };
+    let mut found = word.to_vec();
+    let filled = proved::fill(marks, &mut found);
+    assert_eq!(filled, expected.is_some(), "{word:?} {marks:?}");
+    assert_eq!(found, expected.unwrap_or(word.to_vec()), "{word:?} {marks:?}");
+    filled
+}
+
+/// 20,000 words of a length with 0 to 6 marks of any number in random places, whose bytes are right or wrong, and with 0 to 2 wrong
+/// bytes besides. Both answers are met with each number of marks up to three; four are always filled, and more never.
+fn twenty_thousand(seed: u64, length: usize) {
+    let mut random = Random::new(seed);
+    let mut met = [[0; 2]; 7];
+    for n in 0..20_000 {
+        let mut word = codeword(&mut random, length, 4);
+        let mut marks = vec![0; length];
+        let count = n % 7;
+        let wrong = random.below(3);
+        let places = random.places(count + wrong, length);
+        for &place in &places[..count] {
+            marks[place] = random.change();
+            if random.below(4) != 0 {
+                word[place] = random.byte();
+            }
+        }
+        for &place in &places[count..] {
+            word[place] ^= random.change();
+        }
+        met[count][same_filled(&word, &marks) as usize] += 1;
+    }
+    assert!(met[..4].iter().all(|both| both.iter().all(|&times| times >= 100)), "{met:?}");
+    assert!(met[4][0] == 0 && met[5][1] == 0 && met[6][1] == 0, "{met:?}");
+}
+
+#[test]
+fn lost_bytes_of_c2() {
+    twenty_thousand(8, 28);
+}
+
+#[test]
+fn lost_bytes_of_c1() {
+    twenty_thousand(9, 32);
+}
+
+/// Words of every length to 300, all of whose marks are random; longer than 255 they are left as they are, and so where the marks are
+/// not as many as the bytes.
+#[test]
+fn lost_bytes_of_every_length() {
+    let mut random = Random::new(10);
+    for length in 4..=300 {
+        let mut word = codeword(&mut random, length.min(255), 4);
+        word.resize(length, 0);
+        let mut marks = vec![0; length];
+        let count = random.below(5);
+        for place in random.places(count, length) {
+            marks[place] = random.change();
+            word[place] = random.byte();
+        }
+        if length <= 255 {
+            assert!(same_filled(&word, &marks));
+        }
+        let mut kept = word.clone();
+        if length > 255 {
+            assert!(!proved::fill(&marks, &mut kept));
+        }
+        assert!(!proved::fill(&marks[1..], &mut kept));
+        assert!(!proved::fill(&[&marks[..], &[0]].concat(), &mut kept));
+        assert_eq!(kept, word);
     }
 }

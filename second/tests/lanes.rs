@@ -20,6 +20,7 @@ struct Lanes {
     cut: fn(&[u8], &mut [u8]) -> u8,
     join: fn(&[u8], &mut [u8]) -> u8,
     circ_write: fn(&[u8]) -> Vec<u8>,
+    /// Frames of 32 bytes, each with its marks behind it.
     circ_read: fn(&[u8]) -> Vec<u8>,
     write_section: fn(&mut SectionWriter, &[u8], &[u8], &mut [u8]) -> u8,
     read_section: fn(&[u8], &mut [u8], &mut [u8]) -> u8,
@@ -43,9 +44,9 @@ const SECOND: Lanes = Lanes {
     circ_read: |frames| {
         let mut reader = CircReader::new();
         let mut all = Vec::new();
-        for frame in frames.chunks(32) {
+        for frame in frames.chunks(64) {
             let mut out = [0; 24];
-            assert_eq!(reader.step(frame, &mut out), Ok(false));
+            assert_eq!(reader.step(&frame[..32], &frame[32..], &mut out), Ok(false));
             all.extend(out);
         }
         all
@@ -62,7 +63,7 @@ const PROVED: Lanes = Lanes {
     cut: proved::cut,
     join: proved::join,
     circ_write: |frames| run(proved::circ_write, frames, 24, 32),
-    circ_read: |frames| run(proved::circ_read, frames, 32, 24),
+    circ_read: |frames| run(proved::circ_read, frames, 64, 24),
     write_section: proved::write_section,
     read_section: proved::read_section,
 };
@@ -105,13 +106,15 @@ fn down(lanes: &Lanes, random: &mut Random) -> (Vec<u8>, Vec<u8>) {
     (sectors, channel)
 }
 
-/// Marks stay behind: CIRC takes bytes alone, and the zeros of a lost frame go on as any others.
+/// CIRC takes the marks of a frame with its bytes, and those of the Control place stay behind.
 fn up(lanes: &Lanes, channel: &[u8]) -> Vec<u8> {
     let mut f2 = Vec::new();
     for section in channel.chunks(PACKED) {
         let (mut bytes, mut marks) = (vec![0; READ_BYTES], vec![0; READ_BYTES]);
         assert_eq!((lanes.read_section)(section, &mut bytes, &mut marks), 0);
-        bytes.chunks(33).for_each(|frame| f2.extend(&frame[1..]));
+        for (frame, marks) in bytes.chunks(33).zip(marks.chunks(33)) {
+            f2.extend([&frame[1..], &marks[1..]].concat());
+        }
     }
     let frames = (lanes.circ_read)(&f2);
     let late = &frames[LATE * 24..][..SECTORS * LENGTH];
@@ -135,16 +138,18 @@ fn the_same_channel_bits() {
     assert!(down(&PROVED, &mut Random::new(2)) == down(&SECOND, &mut Random::new(2)));
 }
 
-/// One Sync Header lost in each Section, always in the same frame: its 32 zeros reach C2 one by one, and CIRC mends all.
+/// Fifteen Sync Headers in a row lost in every other Section: the marks of their frames reach C2 with them, and CIRC fills all.
 #[test]
-fn a_lost_header_in_each_section_is_mended_on_the_way() {
+fn lost_headers_are_filled_on_the_way() {
     let mut random = Random::new(3);
     for reading in [&PROVED, &SECOND] {
         let (sectors, mut channel) = down(&PROVED, &mut random);
-        let frame = random.below(98);
-        for section in channel.chunks_mut(PACKED) {
-            let bit = 588 * frame + random.below(24);
-            section[bit / 8] ^= 0x80 >> (bit % 8);
+        for section in channel.chunks_mut(2 * PACKED) {
+            let first = random.below(98 - 15);
+            for frame in first..first + 15 {
+                let bit = 588 * frame + random.below(24);
+                section[bit / 8] ^= 0x80 >> (bit % 8);
+            }
         }
         assert!(up(reading, &channel) == sectors);
     }

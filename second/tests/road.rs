@@ -58,17 +58,17 @@ fn down(random: &mut Random, sectors: &[u8]) -> Vec<Vec<u8>> {
     sections
 }
 
-/// Up again: the Sectors and the number of frames in doubt. Marks stay behind: CIRC takes bytes alone, and the zeros of a lost
-/// frame go on as any others.
+/// Up again: the Sectors and the number of frames in doubt. The marks of a frame go into CIRC with its bytes, those of the Control
+/// place stay behind.
 fn up(sections: &[Vec<u8>]) -> (Vec<u8>, usize) {
     let mut reader = CircReader::new();
     let (mut frames, mut doubts) = (Vec::new(), 0);
     for section in sections {
         let (mut bytes, mut marks) = (vec![0; READ_BYTES], vec![0; READ_BYTES]);
         read_section(section, &mut bytes, &mut marks).unwrap();
-        for frame in bytes.chunks(33) {
+        for (frame, marks) in bytes.chunks(33).zip(marks.chunks(33)) {
             let mut out = [0; 24];
-            doubts += reader.step(&frame[1..], &mut out).unwrap() as usize;
+            doubts += reader.step(&frame[1..], &marks[1..], &mut out).unwrap() as usize;
             frames.extend(out);
         }
     }
@@ -99,6 +99,19 @@ fn wrong_words_are_mended_on_the_way() {
             let bit = 588 * frame + 24 + 17 * (1 + random.below(32)) + 3 + random.below(14);
             section[bit / 8] ^= 0x80 >> (bit % 8);
         }
+    }
+    assert!(up(&sections) == (sectors, 0));
+}
+
+/// Fifteen frames in a row without a Sync Header: each byte is known to be lost, and CIRC fills all.
+#[test]
+fn fifteen_lost_frames_are_filled_on_the_way() {
+    let mut random = Random::new(4);
+    let (sectors, _) = sectors(&mut random);
+    let mut sections = down(&mut random, &sectors);
+    for frame in 60..75 {
+        let bit = 588 * frame + random.below(24);
+        sections[3][bit / 8] ^= 0x80 >> (bit % 8);
     }
     assert!(up(&sections) == (sectors, 0));
 }

@@ -58,10 +58,7 @@ metC1 g n = outAt readerBeforeC1 (λ m. inverted (g m)) n
 unfoldable pub metC2 : (List ℕ → List ℕ) → (ℕ → List ℕ) → ℕ → List ℕ
 metC2 fix₁ g n = outAt readerBetween (λ m. throughC1 fix₁ (metC1 g m)) n
 
--- the store of a fresh reader: 16 bytes wait before C1, 1,512 between C1 and C2, 24 bytes and two marks after C2
-abbrev pub freshReader : List ℕ
-freshReader = replicate 1554 0
-
+-- the reader as it was before it took marks (document 01); `Marked` has the reader that it is now
 module _ (fix₁ fix₂ : List ℕ → List ℕ) (mark : List ℕ → ℕ) where
   -- the rows that a reader with the store s gives for an F2-frame
   unfoldable pub readerRows : List ℕ → List ℕ → List ℕ

@@ -1,15 +1,22 @@
--- The two codes of CIRC (Annex C.7): C2 and C1 are codewords of four sums; reading hands on the codeword near a word, if there is one.
+-- The two codes of CIRC (Annex C.7): C2 and C1 are codewords of four sums; reading hands on the codeword near a word, if there is one, or the one that
+-- agrees with it on the bytes that are not marked as lost (document 02, §7).
 -- Assumes nothing.
 use mathlib.Core.List.{List, [], _∷_, _++_, map}
+use mathlib.Core.Bool.{cond}
 use mathlib.Core.Option.{Option, none, some}
 use Prim.Native.Nat.{ℕ, zero, suc, _%_}
 use native.Mathlib.Omega.{arith}
+use lib.Dec.{eqb, leb}
 use lib.ListN.{take, drop}
 use Rattle.outcome.specs.Bytes.{Bytes}
+use Rattle.codeword.specs.Code.{weight}
 use Rattle.codeword.specs.Nearest.{nearest}
 use Rattle.codeword.specs.Parity.{Parity}
 use Rattle.codeword.specs.Parity.Exists.{four-exist}
+use Rattle.erasures.specs.Agreeing.{agreeing, handedOn}
 pub mod Parities
+pub mod Corrected
+pub mod Treated
 
 -- each element as a byte: a list of bytes as it is
 unfoldable asBytes : List ℕ → List ℕ
@@ -37,12 +44,9 @@ qOf w = parityBetween (take 12 w) (drop 16 w)
 unfoldable pub pOf : List ℕ → List ℕ
 pOf w = parityBetween w []
 
--- what is handed on: the codeword near the word, or the word as it came
-abbrev pub handedOn : List ℕ → Option (List ℕ) → List ℕ
-handedOn w (some c) = c
-handedOn w none = w
+-- ---- reading, without marks: the codeword near a word
 
--- the mark of a word with no codeword near
+-- the mark of a word for which no codeword is found
 abbrev pub markOf : Option (List ℕ) → ℕ
 markOf (some c) = 0
 markOf none = 1
@@ -53,3 +57,16 @@ corrected w = handedOn w (nearest 4 w)
 
 unfoldable pub lost : List ℕ → ℕ
 lost w = markOf (nearest 4 w)
+
+-- ---- reading, with marks: m has a mark for each byte of w, and one that is not 0 says that the byte is lost
+
+-- the codeword that is found: without marks the one near the word; with at most `most` marks the one that agrees with it on every unmarked byte; with more none
+unfoldable pub foundFor : ℕ → List ℕ → List ℕ → Option (List ℕ)
+foundFor most m w = cond (eqb (weight m) 0) (nearest 4 w) (cond (leb (weight m) most) (agreeing m w) none)
+
+-- what is handed on: that codeword, or the word as it came; and the mark of a word that goes on as it came
+unfoldable pub treated : ℕ → List ℕ → List ℕ → List ℕ
+treated most m w = handedOn w (foundFor most m w)
+
+unfoldable pub doubted : ℕ → List ℕ → List ℕ → ℕ
+doubted most m w = markOf (foundFor most m w)

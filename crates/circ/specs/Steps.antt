@@ -2,17 +2,28 @@
 -- outgoing buffer then holds. Refusals 1 and 2 in this order.
 -- Assumes nothing.
 use Prim.Native.Nat.{ℕ}
-use mathlib.Core.List.{List, [], _∷_}
-use Rattle.circ.specs.Chains.{writerOut, writerNext, readerOut, readerDoubt, readerNext}
-use Rattle.circ.specs.Codes.{qOf, pOf, corrected, lost}
+use mathlib.Core.Bool.{Bool, _&&_}
+use mathlib.Core.List.{List, [], _∷_, _++_}
+use lib.Dec.{eqb}
+use lib.ListN.{length}
+use Rattle.circ.specs.Chains.{writerOut, writerNext}
+use Rattle.circ.specs.Codes.{qOf, pOf}
+use Rattle.circ.specs.Marked.{markedOut, markedDoubt, markedNext}
 use Rattle.calls.specs.Step.{Step}
 use Rattle.circ.specs.Step.{stepped}
+pub mod Fits
 
 -- 24 bytes in, 32 out
-abbrev pub writes : List ℕ → List ℕ → List ℕ → Step (List ℕ)
-writes s frame out = stepped 24 32 [] (writerOut qOf pOf s frame) (writerNext qOf pOf s frame) s frame out
+abbrev pub fitsWriter : List ℕ → Bool
+fitsWriter frame = eqb (length frame) 24
 
--- 32 bytes in, 24 out, with a doubt mark
-abbrev pub reads : List ℕ → List ℕ → List ℕ → Step (List ℕ)
-reads s frame out =
-    stepped 32 24 (readerDoubt corrected corrected lost s frame ∷ []) (readerOut corrected corrected lost s frame) (readerNext corrected corrected lost s frame) s frame out
+abbrev pub writes : List ℕ → List ℕ → List ℕ → Step (List ℕ)
+writes s frame out = stepped (fitsWriter frame) 32 [] (writerOut qOf pOf s frame) (writerNext qOf pOf s frame) s out
+
+-- 32 bytes and 32 marks in, 24 bytes out, with a doubt mark
+abbrev pub fitsReader : List ℕ → List ℕ → Bool
+fitsReader frame marks = eqb (length frame) 32 && eqb (length marks) 32
+
+abbrev pub reads : List ℕ → List ℕ → List ℕ → List ℕ → Step (List ℕ)
+reads s frame marks out =
+    stepped (fitsReader frame marks) 24 (markedDoubt s (frame ++ marks) ∷ []) (markedOut s (frame ++ marks)) (markedNext s (frame ++ marks)) s out

@@ -1,2 +1,2 @@
 mod Marks
-mod Mending
+mod Beside

@@ -68,7 +68,7 @@ pub const BETWEEN: [u8; 28] = [
     0,
 ];
 
-// After C2. The last two rows carry the word's mark, now and two frames later.
+// After C2. The last two rows carry the word's doubt, now and two frames later.
 pub const AFTER_C2: [u8; 30] = [
     0,
     0,

@@ -3,7 +3,8 @@ mod lending;
 
 ghost use mathlib.Core.Path.{_≡_};
 ghost use lib.ListN.{length, getD};
-ghost use Rattle.circ.specs.Chains.{freshWriter, freshReader};
+ghost use Rattle.circ.specs.Chains.{freshWriter};
+ghost use Rattle.circ.specs.Marked.{freshReader};
 ghost use Rattle.circ_reader.specs.Answers as readers;
 ghost use Rattle.circ_writer.specs.Answers as writers;
 ghost use Rattle.told.specs.Told.{numberOf, valuesOf};
@@ -61,12 +62,13 @@ fn write_frame(writer: CircWriter, frame: &[u8], pair: &mut [u8], out: &mut [u8]
     step.next
 }
 
-// The same of the reader.
-fn read_frame(reader: CircReader, frame: &[u8], pair: &mut [u8], out: &mut [u8]) -> CircReader
+// The same of the reader: the frame is the first 32 bytes, and behind it are its marks.
+fn read_frame(reader: CircReader, incoming: &[u8], pair: &mut [u8], out: &mut [u8]) -> CircReader
     requires { ⌜ length (now pair) ≡ 2 ⌝ }
-    ensures { λ r. ⌜ Leaves reading (reader .line) (call (now (frame .entry)) (now (out .entry))) (r .line) (now (pair .exit)) (now (out .exit)) ⌝ }
+    ensures { λ r. ⌜ Leaves reading (reader .line) (call (now (incoming .entry)) (now (out .entry))) (r .line) (now (pair .exit)) (now (out .exit)) ⌝ }
 {
-    let step = reader.step(frame, out);
+    let end = end_of(0, 32, incoming.len());
+    let step = reader.step(&incoming[..end], &incoming[end..], out);
     let answer = step.answer;
     put(was_read(answer), doubt(answer), pair);
     step.next

@@ -1,4 +1,4 @@
--- Public calls of the CIRC writer and reader: a list of them from `new()`, with any frames and any buffers, refused ones among them.
+-- Public calls of the CIRC writer and reader: a list of them from `new()`, with anything coming in and any buffers, refused ones among them.
 -- Assumes nothing.
 use mathlib.Core.Bool.{Bool, cond, _&&_}
 use mathlib.Core.List.{List, [], _∷_, map}
@@ -7,49 +7,61 @@ use lib.Dec.{eqb}
 use lib.ListN.{length}
 use Rattle.calls.specs.Step.{Step}
 use Rattle.calls.specs.Calls.{run, doneOf}
-use Rattle.circ.specs.Steps.{writes, reads}
-use Rattle.circ.specs.Chains.{freshWriter, freshReader}
+use Rattle.circ.specs.Steps.{fitsWriter, writes, fitsReader, reads}
+use Rattle.circ.specs.Chains.{freshWriter}
+use Rattle.circ.specs.Marked.{freshReader}
 pub mod Done
 pub mod Streams
 pub mod ThereAndBack
 
--- a call: the frame, and what the outgoing buffer held
-pub record Call : Type 0 where
-  pub frame : List ℕ
+-- a call: what comes in, and what the outgoing buffer held
+pub record Call (X : Type 0) : Type 0 where
+  pub incoming : X
   pub out : List ℕ
 
--- what a call does in a state
-abbrev pub writerDoes : List ℕ → Call → Step (List ℕ)
-writerDoes s c = writes s (c .frame) (c .out)
+-- what comes into the reader: a frame and its marks
+pub record MarkedFrame : Type 0 where
+  pub frame : List ℕ
+  pub marks : List ℕ
 
-abbrev pub readerDoes : List ℕ → Call → Step (List ℕ)
-readerDoes s c = reads s (c .frame) (c .out)
+abbrev pub marked : List ℕ → List ℕ → MarkedFrame
+marked frame marks = record { frame = frame; marks = marks }
+
+-- what a call does in a state
+abbrev pub writerDoes : List ℕ → Call (List ℕ) → Step (List ℕ)
+writerDoes s c = writes s (c .incoming) (c .out)
+
+abbrev pub readerDoes : List ℕ → Call MarkedFrame → Step (List ℕ)
+readerDoes s c = reads s (c .incoming .frame) (c .incoming .marks) (c .out)
 
 -- the calls that are done, of a list of them from `new()` on
-abbrev pub writerDone : List Call → List (Step (List ℕ))
+abbrev pub writerDone : List (Call (List ℕ)) → List (Step (List ℕ))
 writerDone cs = doneOf (run writerDoes freshWriter cs)
 
-abbrev pub readerDone : List Call → List (Step (List ℕ))
+abbrev pub readerDone : List (Call MarkedFrame) → List (Step (List ℕ))
 readerDone cs = doneOf (run readerDoes freshReader cs)
 
--- whether both lengths are right
-abbrev pub fits : ℕ → ℕ → Call → Bool
-fits incoming outgoing c = eqb (length (c .frame)) incoming && eqb (length (c .out)) outgoing
+-- whether all lengths are right
+abbrev pub fits : {X : Type 0} → (X → Bool) → ℕ → Call X → Bool
+fits test outgoing c = test (c .incoming) && eqb (length (c .out)) outgoing
 
--- the calls of which both are: these are done (`writer-done`, `reader-done`)
-unfoldable pub fitting : ℕ → ℕ → List Call → List Call
-fitting incoming outgoing [] = []
-fitting incoming outgoing (c ∷ cs) = cond (fits incoming outgoing c) (c ∷ fitting incoming outgoing cs) (fitting incoming outgoing cs)
+abbrev pub fitsBoth : MarkedFrame → Bool
+fitsBoth x = fitsReader (x .frame) (x .marks)
 
--- the frames of the writer's calls that are done, and of the reader's
-abbrev pub frames : List Call → List (List ℕ)
-frames cs = map (λ c. c .frame) cs
+-- the calls of which all are: these are done (`writer-done`, `reader-done`)
+unfoldable pub fitting : {X : Type 0} → (X → Bool) → ℕ → List (Call X) → List (Call X)
+fitting test outgoing [] = []
+fitting test outgoing (c ∷ cs) = cond (fits test outgoing c) (c ∷ fitting test outgoing cs) (fitting test outgoing cs)
 
-abbrev pub writerFrames : List Call → List (List ℕ)
-writerFrames cs = frames (fitting 24 32 cs)
+-- what came into the writer's calls that are done, and into the reader's
+abbrev pub incomings : {X : Type 0} → List (Call X) → List X
+incomings cs = map (λ c. c .incoming) cs
 
-abbrev pub readerFrames : List Call → List (List ℕ)
-readerFrames cs = frames (fitting 32 24 cs)
+abbrev pub writerFrames : List (Call (List ℕ)) → List (List ℕ)
+writerFrames cs = incomings (fitting fitsWriter 32 cs)
+
+abbrev pub readerFrames : List (Call MarkedFrame) → List MarkedFrame
+readerFrames cs = incomings (fitting fitsBoth 24 cs)
 
 -- what the buffers of steps hold
 abbrev pub outs : List (Step (List ℕ)) → List (List ℕ)

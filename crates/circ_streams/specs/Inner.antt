@@ -10,3 +10,8 @@ pub mod ReaderRows
 pub mod Mended
 pub mod ThereAndBack
 pub mod Settled
+-- with marks (document 02, §7)
+pub mod MarkedStreams
+pub mod MarkRows
+pub mod MarkedRows
+pub mod AsWritten

@@ -35,6 +35,11 @@ changes [] ys = 0
 changes (x ∷ xs) [] = 0
 changes (x ∷ xs) (y ∷ ys) = cond (eqb x y) 0 1 + changes xs ys
 
+-- how many bytes of a word are not 0
+unfoldable pub weight : List ℕ → ℕ
+weight [] = 0
+weight (x ∷ w) = cond (eqb x 0) 0 1 + weight w
+
 -- c is a codeword of w's length that differs from w in at most one byte
 pub record Near (J : ℕ) (w c : List ℕ) : Type 0 where
   pub long : length c ≡ length w

@@ -1,6 +1,7 @@
 // Runs of the CIRC writer and of the CIRC reader, each from a fresh state on.
 ghost use mathlib.Core.Path.{_≡_};
-ghost use Rattle.circ.specs.Chains.{freshWriter, freshReader};
+ghost use Rattle.circ.specs.Chains.{freshWriter};
+ghost use Rattle.circ.specs.Marked.{freshReader};
 ghost use Rattle.circ_runs.specs.Runs.{left, runs};
 ghost use Rattle.circ_runs.specs.Coders.{writing, reading};
 

@@ -1,9 +1,10 @@
-// Codewords: the verdict on a word, and parity.
+// Codewords: the verdict on a word, parity, and the filling of lost bytes.
 ghost use mathlib.Core.Path.{_≡_};
 ghost use mathlib.Core.List.{_++_};
 ghost use lib.ListN.{take, drop};
 ghost use Rattle.codeword.specs.Nearest.{verdict};
 ghost use Rattle.codeword.specs.Parity.{Parity};
+ghost use Rattle.filling.specs.Fill.{Fills};
 ghost use Rattle.told.specs.Told.{Tells, Told};
 ghost use Rattle.exports.specs.Verdicts.{sayOf};
 use codeword::Verdict;
@@ -66,4 +67,12 @@ pub extern "C" fn road_parity_at_12(w: &[u8; 28], parity: &mut [u8; 4])
     ensures { λ _. ⌜ Parity 4 (now (parity .exit)) (take 12 (now (w .entry)) ++ (now (parity .exit) ++ drop 16 (now (w .entry)))) ⌝ }
 {
     *parity = codeword::parity_at_12(*w);
+}
+
+// The marked bytes of a word of four sums are filled, where a codeword agrees with the others.
+#[no_mangle]
+pub extern "C" fn road_fill(marks: &[u8], word: &mut [u8]) -> bool
+    ensures { λ r. ⌜ Fills (now (marks .entry)) (now (word .entry)) (now (word .exit)) r ⌝ }
+{
+    filling::fill(marks, word)
 }

@@ -39,7 +39,8 @@ module _ (s : List ℕ) (from count start more : ℕ) (es : start ≡ clamped fr
   more-is : more ≡ clamped count (length (drop start s))
   more-is = em ∙ ap (clamped count) (sym (length-drop start s))
 
-  part-clamped : take (start + more - start) (drop start s) ≡ part from count s
+  -- the part that is lent
+  pub part-clamped : take (start + more - start) (drop start s) ≡ part from count s
   part-clamped =
       let e : start + more - start ≡ more = omega arith in
       ap (λ (k : ℕ). take k (drop start s)) (e ∙ more-is) ∙ take-clamped count (drop start s) ∙ ap (take count) rest

@@ -4,6 +4,7 @@ use Prim.Native.Nat.{ℕ, _+_}
 use mathlib.Core.List.{List, [], _∷_, _++_}
 use lib.ListN.{take, drop, getD, replicate}
 pub mod Lengths
+pub mod Quiet
 
 -- what comes out of a line when x goes in: the oldest byte, or x itself where the line has no length
 unfoldable pub lineOut : List ℕ → ℕ → ℕ

@@ -4,3 +4,5 @@ pub mod Part
 pub mod Chain
 -- and over time
 pub mod Stream
+-- contracts of private functions
+pub mod Inner

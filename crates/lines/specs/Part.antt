@@ -5,6 +5,7 @@ use Prim.Native.Nat.{ℕ, _+_}
 use lib.ListN.{take, drop}
 use Rattle.lines.specs.Delay.{rowsNext}
 pub mod Around
+pub mod Beside
 
 -- the n bytes of the store from a place on
 abbrev pub part : ℕ → ℕ → List ℕ → List ℕ

@@ -7,6 +7,7 @@ use Rattle.lines.specs.Delay.{rowsOut, rowsNext, total}
 pub mod Late
 pub mod Rows
 pub mod Series
+pub mod Beside
 
 -- the stream x, d steps later; z before the start
 unfoldable pub back : {A : Type 0} → A → (ℕ → A) → ℕ → ℕ → A

@@ -1,8 +1,10 @@
 // Delay lines of bytes, one after the other in one flat store.
 ghost use mathlib.Core.Path.{_≡_};
 ghost use Prim.Native.Nat.{_-_};
+ghost use lib.Dec.{eqb};
 ghost use Rattle.lines.specs.Delay.{lineNext, rowsOut, rowsNext};
 ghost use Rattle.lines.specs.Part.{part, staged};
+ghost use Rattle.lines.specs.Inner.Any.{anyOf};
 
 // The smaller of two numbers.
 fn smaller(a: usize, b: usize) -> usize
@@ -57,12 +59,31 @@ pub fn delay(lens: &[u8], line: &mut [u8], word: &mut [u8])
     shift(&mut line[..at], carry);
 }
 
-// The same where the lines stand in `count` bytes of a longer store, from one place on, or in as many as it has there.
+// Whether all are 0.
+fn quiet(s: &[u8]) -> bool
+    ensures { λ r. ⌜ r ≡ eqb (anyOf 0 (now (s .entry))) 0 ⌝ }
+{
+    let mut any: u8 = 0;
+    let mut i: usize = 0;
+    while i < s.len() {
+        any = any | s[i];
+        i += 1;
+    }
+    any == 0
+}
+
+// The same where the lines stand in `count` bytes of a longer store, from one place on, or in as many as it has there. Where nothing but zeros waits and comes
+// in, as with marks, a look is enough.
 pub fn stage(lens: &[u8], store: &mut [u8], from: usize, count: usize, word: &mut [u8])
     ensures { λ _. ⌜ (now (word .exit) ≡ rowsOut (now (lens .entry)) (part from count (now (store .entry))) (now (word .entry)))
         × (now (store .exit) ≡ staged (now (lens .entry)) from count (now (store .entry)) (now (word .entry))) ⌝ }
 {
     let start = smaller(from, store.len());
     let end = start + smaller(count, store.len() - start);
+    if quiet(word) {
+        if quiet(&store[start..end]) {
+            return;
+        }
+    }
     delay(lens, &mut store[start..end], word);
 }

@@ -1,5 +1,6 @@
 //! Annexes A.3 and C.7: sums and parity.
 
+mod filled;
 mod near;
 
 use super::*;

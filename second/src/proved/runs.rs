@@ -49,7 +49,7 @@ pub fn circ_write(frames: &[u8], steps: &mut [u8], out: &mut [u8]) {
     unsafe { road_circ_write(bytes, length, steps.as_mut_ptr(), steps.len(), out, out_length) }
 }
 
-/// The same from a fresh reader.
+/// The same from a fresh reader. What a step is lent is a frame, of 32 bytes or less, and its marks behind it.
 pub fn circ_read(frames: &[u8], steps: &mut [u8], out: &mut [u8]) {
     let (bytes, length) = (frames.as_ptr(), frames.len());
     let (out, out_length) = (out.as_mut_ptr(), out.len());

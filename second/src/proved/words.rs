@@ -11,6 +11,7 @@ extern "C" {
     fn road_parity_of_two(word: *const u8, length: usize, parity: *mut [u8; 2]);
     fn road_parity_at_end(word: *const u8, length: usize, parity: *mut [u8; 4]);
     fn road_parity_at_12(word: *const [u8; 28], parity: *mut [u8; 4]);
+    fn road_fill(marks: *const u8, marks_length: usize, word: *mut u8, length: usize) -> bool;
     fn road_edc_remainder(bytes: *const u8, length: usize) -> u32;
     fn road_edc_parity(bytes: *const u8, length: usize, field: *mut [u8; 4]);
     fn road_edc_holds(bytes: *const u8, length: usize) -> bool;
@@ -52,6 +53,11 @@ pub fn parity_at_12(word: &[u8; 28]) -> [u8; 4] {
     let mut parity = [0; 4];
     unsafe { road_parity_at_12(word, &mut parity) }
     parity
+}
+
+/// The marked bytes of a word are filled, where a codeword of four sums agrees with the others.
+pub fn fill(marks: &[u8], word: &mut [u8]) -> bool {
+    unsafe { road_fill(marks.as_ptr(), marks.len(), word.as_mut_ptr(), word.len()) }
 }
 
 pub fn edc_remainder(bytes: &[u8]) -> u32 {

@@ -1,10 +1,31 @@
--- `read_frame` meets its contract: it is what the step gives, with its answer in two bytes (`leaves-all`).
+-- `read_frame` meets its contract: it is what the step gives over the frame and the marks behind it (`frame-and-marks`), with its answer in two bytes (`leaves-all`).
 -- Assumes nothing.
-use borrow.Author.Needs.{needs}
+use mathlib.Core.Path.{sym}
+use native.Mathlib.Omega.{arith}
+use lib.Seq.{length-take-le}
 use Rattle.circ_runs.specs.Coders.{reading}
-use Rattle.circ_runs.proofs.Leaving.{leaves-all}
+use Rattle.circ_runs.proofs.Lent.{lent-in}
+use Rattle.circ_runs.proofs.Leaving.{leaves-all, frame-and-marks}
+use borrow.Author.Needs.{needs}
 use Rattle.circ_runs.proofs.read_frame.Statement.{statement}
 use Rattle.circ_runs.proofs.read_frame.Tie as tie
+
+end-of-requires : tie.Need-end-of-requires
+end-of-requires c κs = search needs
+
+slice-aggregate-step : tie.Need-slice-aggregate-step
+slice-aggregate-step c =
+    let incoming = c .before .before .before .before .before .args .incoming .now in
+    sym (length-take-le (c .before .end-of .result) incoming (lent-in 32 0 (c .before .end-of .result) incoming (omega arith) (c .before .end-of .ensures)))
+
+sub-step : tie.Need-sub-step
+sub-step c = search needs
+
+part-step-start : tie.Need-part-step-start
+part-step-start c = search needs
+
+part-step-end : tie.Need-part-step-end
+part-step-end c = search needs
 
 step-requires : tie.Need-step-requires
 step-requires c κs = search needs
@@ -25,17 +46,28 @@ same-length-2 : tie.Need-same-length-2
 same-length-2 c = search needs
 
 returns : tie.Need-returns
-unfolding reading
 returns c =
     let put = c .before .before .before in
     let marked = put .before .before in
     let told = marked .before in
-    leaves-all reading _ _ _ _ _ _ _ _ (told .before .before .before .step .ensures) (put .put .ensures) (told .was-read .ensures) (marked .doubt .ensures)
+    let stepped = told .before .before .before in
+    let split = stepped .before .before .before .before in
+    let start = split .before .before .before .before in
+    leaves-all reading _ _ _ _ _ _ _ _
+    (frame-and-marks (start .args .reader .line) (start .args .incoming .now) (start .args .out .now) (split .end-of .result) _ (split .end-of .ensures) (stepped .step .ensures))
+    (put .put .ensures)
+    (told .was-read .ensures)
+    (marked .doubt .ensures)
 
 pub read-frame-spec : {M : Type 1} → statement M
 read-frame-spec =
     tie.close
     (tie.spec
+    end-of-requires
+    slice-aggregate-step
+    sub-step
+    part-step-start
+    part-step-end
     step-requires
     was-read-requires
     doubt-requires

@@ -3,7 +3,8 @@
 use borrow.Author.Needs.{needs}
 use Prim.Native.Nat.{_-_}
 use lib.ListN.{length}
-use Rattle.circ.specs.Chains.{freshWriter, freshReader}
+use Rattle.circ.specs.Chains.{freshWriter}
+use Rattle.circ.specs.Marked.{freshReader}
 use Rattle.circ_runs.specs.Inner.Coding.{coding, oneOf}
 use Rattle.circ_runs.proofs.Leaving.{of-reader, of-writer}
 use Rattle.circ_runs.proofs.Running.{Running, running-none, running-more, running-all}

@@ -1,22 +1,15 @@
 -- The two codes of CIRC are as the laws over streams ask: parity makes codewords, and a codeword is handed on as it is and is not marked.
--- A word is marked exactly where no codeword is near it.
 -- Assumes nothing.
-use mathlib.Core.Path.{_≡_, refl, ap}
-use mathlib.Core.List.{List, []}
-use mathlib.Core.Logic.{_⊎_, inl, inr}
-use mathlib.Core.Option.{Option, none, some}
-use Prim.Native.Nat.{ℕ, _≤_}
+use mathlib.Core.Path.{ap}
+use mathlib.Core.List.{[]}
 use native.Mathlib.Omega.{arith}
-use lib.ListN.{length, take, drop, length-set}
-use Rattle.outcome.specs.Bytes.{Bytes}
-use Rattle.codeword.specs.Code.{Codeword, Near}
-use Rattle.codeword.specs.Nearest.{nearest, verdict, mended}
-use Rattle.codeword.specs.declared.Verdict.{Verdict}
-use Rattle.codeword.specs.declared.Verdict.the-variants as verdicts
-use Rattle.codeword.specs.Nearest.Finds.{nearest-code, nearest-sound, nearest-none}
+use lib.ListN.{take, drop}
+use Rattle.codeword.specs.Code.{Codeword}
+use Rattle.codeword.specs.Nearest.Finds.{nearest-code}
 use Rattle.codeword.specs.Code.Distance.{sum-zeros}
 use Rattle.circ_streams.specs.Inner.Coding.{Coding, Correcting}
-use Rattle.circ.specs.Codes.{qOf, pOf, handedOn, markOf, corrected, lost}
+use Rattle.erasures.specs.Agreeing.{handedOn}
+use Rattle.circ.specs.Codes.{qOf, pOf, markOf, corrected, lost}
 use Rattle.circ.specs.Codes.Parities.{four-bytes, bytes-parity, q-parity, p-parity}
 
 -- the Q and P bytes make codewords
@@ -42,33 +35,3 @@ circ-correcting =
       keeps₂ = λ w e h c. ap (handedOn w) (nearest-code 4 w (omega arith) c);
       sure = λ w e h c. ap markOf (nearest-code 4 w (omega arith) c);
     }
-
--- ---- what becomes of a word
-
--- the mark of a word: 1 and no codeword is near it, or 0 and what is handed on is near it
-pub judged : (w : List ℕ) → Bytes w → length w ≤ 255 → ((lost w ≡ 1) × ((c : List ℕ) → Near 4 w c → ⊥)) ⊎ ((lost w ≡ 0) × Near 4 w (corrected w))
-unfolding lost corrected
-judged w bytes short = go (nearest 4 w) refl
-  where
-    go : (o : Option (List ℕ)) → nearest 4 w ≡ o → ((markOf o ≡ 1) × ((c : List ℕ) → Near 4 w c → ⊥)) ⊎ ((markOf o ≡ 0) × Near 4 w (handedOn w o))
-    go (some c) p = inr (refl, nearest-sound 4 w bytes c p)
-    go none p = inl (refl, nearest-none 4 w bytes (omega arith) short p)
-
--- bytes stay bytes
-pub bytes-corrected : (w : List ℕ) → Bytes w → Bytes (corrected w)
-unfolding corrected
-bytes-corrected w bytes = go (nearest 4 w) refl
-  where
-    go : (o : Option (List ℕ)) → nearest 4 w ≡ o → Bytes (handedOn w o)
-    go (some c) p = nearest-sound 4 w bytes c p .bytes
-    go none p = bytes
-
--- a word keeps its length
-pub length-corrected : (w : List ℕ) → length (corrected w) ≡ length w
-unfolding corrected nearest
-length-corrected w = go (verdict 4 w)
-  where
-    go : (v : Verdict) → length (handedOn w (mended w v)) ≡ length w
-    go verdicts.Clean = refl
-    go (verdicts.Change i b) = length-set w i b
-    go verdicts.Lost = refl

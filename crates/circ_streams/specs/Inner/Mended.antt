@@ -74,7 +74,7 @@ module _ {C : List ℕ → Type 0} {q p fix₁ fix₂ : List ℕ → List ℕ} {
         ∙ late-row 32 1 r n C1 (omega arith)
 
     -- the C2 words
-    length-U₂ : (n : ℕ) → length (U₂ n) ≡ 28
+    pub length-U₂ : (n : ℕ) → length (U₂ n) ≡ 28
     unfolding metC2
     length-U₂ n = length-out readerBetween (λ m. V₁ m) n ∙ length-V₁ n
 
@@ -90,13 +90,13 @@ module _ {C : List ℕ → Type 0} {q p fix₁ fix₂ : List ℕ → List ℕ} {
     is-U₂ : (n : ℕ) → U₂ n ≡ back (replicate 28 0) C2 c2Late n
     is-U₂ n = gather (U₂ n) C2 28 c2Late n (length-U₂ n) (length-c2 code f) (λ r h. row-U₂ r n h)
 
-    code-U₂ : (n : ℕ) → C (U₂ n)
+    pub code-U₂ : (n : ℕ) → C (U₂ n)
     code-U₂ n = subst C (sym (is-U₂ n)) (back-all C (replicate 28 0) C2 c2Late n (fix .zeros 28) (c2-codeword code f fb))
 
-    bytes-U₂ : (n : ℕ) → Bytes (U₂ n)
+    pub bytes-U₂ : (n : ℕ) → Bytes (U₂ n)
     bytes-U₂ n = subst (λ (w : List ℕ). Bytes w) (sym (is-U₂ n)) (back-all (λ w. Bytes w) (replicate 28 0) C2 c2Late n (bytes-replicate 28 0 (omega arith)) (bytes-c2 code f fb))
 
-    is-V₂ : (n : ℕ) → V₂ n ≡ U₂ n ++ (0 ∷ 0 ∷ [])
+    pub is-V₂ : (n : ℕ) → V₂ n ≡ U₂ n ++ (0 ∷ 0 ∷ [])
     unfolding throughC2
     is-V₂ n =
         ap₂ (λ (w : List ℕ) (b : ℕ). w ++ (b ∷ b ∷ []))

@@ -38,7 +38,7 @@ module _ (g : ℕ → List ℕ) (long : (n : ℕ) → length (g n) ≡ 32) where
 
   -- C1 changes no word's length
   module _ (fix₁ : List ℕ → List ℕ) (same₁ : (w : List ℕ) → length (fix₁ w) ≡ length w) where
-    length-through-c1 : (n : ℕ) → length (throughC1 fix₁ (metC1 g n)) ≡ 28
+    pub length-through-c1 : (n : ℕ) → length (throughC1 fix₁ (metC1 g n)) ≡ 28
     unfolding throughC1
     length-through-c1 n = length-take-le 28 (fix₁ (metC1 g n)) (omega (arith, same₁ (metC1 g n), length-met-c1 n))
 

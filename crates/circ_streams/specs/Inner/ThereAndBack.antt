@@ -31,7 +31,7 @@ module _ {C : List ℕ → Type 0} {q p fix₁ fix₂ : List ℕ → List ℕ} {
       ∙ series afterC1 readerBeforeC1 (λ m. c1Word q p f m) 32 1 n (omega arith) (omega arith) (length-c1 code f) around-c1
 
   -- and C1 leaves them so
-  kept : (n : ℕ) → fix₁ (metC1 W n) ≡ lateC1 q p f n
+  pub kept : (n : ℕ) → fix₁ (metC1 W n) ≡ lateC1 q p f n
   kept n =
       ap fix₁ (met n)
       ∙ fix .keeps₁ (lateC1 q p f n) (length-late code fix f f24 fb n) (bytes-late code fix f f24 fb n) (code-late code fix f f24 fb n)

@@ -10,14 +10,16 @@ use Rattle.codeword.specs.Code.{changes, Near}
 use Rattle.codeword.specs.Nearest.Finds.{nearest-complete}
 use Rattle.lines.specs.Stream.Late.{back-later}
 use Rattle.circ.specs.Chains.{metC1}
-use Rattle.circ.specs.Codes.{qOf, pOf, corrected, handedOn}
+use Rattle.erasures.specs.Agreeing.{handedOn}
+use Rattle.circ.specs.Codes.{qOf, pOf, corrected}
 use Rattle.circ_streams.specs.Inner.Codes.{circ-coding, circ-correcting}
 use Rattle.circ_streams.specs.Inner.ReaderRows.{length-met-c1, bytes-met-c1}
 use Rattle.circ_streams.specs.Inner.Mended.{lateC1, length-late, bytes-late, code-late, mended-back, mended-sure}
 use Rattle.circ_streams.specs.Inner.ThereAndBack.{met}
-use Rattle.circ_streams.specs.Streams.{F1Frames, F2Frames, f2At, f1At, doubtAt, roundTrip}
+use Rattle.circ_streams.specs.Streams.{F1Frames, F2Frames, MarksOf, NoneLost, f2At, f1At, doubtAt, f1Before, doubtBefore, roundTrip}
+use Rattle.circ_streams.specs.Streams.AsBefore.{reads-as-before}
 
-module _ (f : ℕ → List ℕ) (frames : F1Frames f) (g : ℕ → List ℕ) (damaged : F2Frames g)
+module _ (f : ℕ → List ℕ) (frames : F1Frames f) (g k : ℕ → List ℕ) (damaged : F2Frames g) (marks : MarksOf k) (none : NoneLost k)
     (close : (n : ℕ) → changes (metC1 g n) (metC1 (λ m. f2At f m) n) ≤ 1) where
   near : (n : ℕ) → Near 4 (metC1 g n) (lateC1 qOf pOf f n)
   near n =
@@ -32,11 +34,15 @@ module _ (f : ℕ → List ℕ) (frames : F1Frames f) (g : ℕ → List ℕ) (da
   unfolding corrected
   mended n = ap (handedOn (metC1 g n)) (nearest-complete 4 (metC1 g n) (bytes-met-c1 g (damaged .long) (damaged .bytes) n) (omega arith) (omega (arith, length-met-c1 g (damaged .long) n)) (lateC1 qOf pOf f n) (near n))
 
+  as-before : (n : ℕ) → (f1At g k n ≡ f1Before g n) × (doubtAt g k n ≡ doubtBefore g n)
+  as-before = reads-as-before g k damaged marks none (λ n. (lateC1 qOf pOf f n, near n))
+
   -- the F1-frames come back all the same
-  pub damaged-and-back : (n : ℕ) → f1At g (roundTrip + n) ≡ f n
+  pub damaged-and-back : (n : ℕ) → f1At g k (roundTrip + n) ≡ f n
   damaged-and-back n =
-      mended-back circ-coding circ-correcting f (frames .long) (frames .bytes) g mended (roundTrip + n) ∙ back-later (replicate 24 0) f roundTrip n
+      as-before (roundTrip + n) .0
+      ∙ mended-back circ-coding circ-correcting f (frames .long) (frames .bytes) g mended (roundTrip + n) ∙ back-later (replicate 24 0) f roundTrip n
 
   -- and none is in doubt
-  pub damaged-without-doubt : (n : ℕ) → doubtAt g n ≡ 0
-  damaged-without-doubt n = mended-sure circ-coding circ-correcting f (frames .long) (frames .bytes) g mended n
+  pub damaged-without-doubt : (n : ℕ) → doubtAt g k n ≡ 0
+  damaged-without-doubt n = as-before n .1 ∙ mended-sure circ-coding circ-correcting f (frames .long) (frames .bytes) g mended n

@@ -1,19 +1,21 @@
 -- A fresh writer acts as if endless zero F1-frames had gone before, and a fresh reader as if the matching F2-frames had: however many of them go in
 -- first, what comes after them is answered alike.
 -- Assumes nothing.
-use mathlib.Core.Path.{_≡_, refl, ap₂, _∙_}
-use mathlib.Core.List.{List, [], _∷_}
+use mathlib.Core.Path.{_≡_, refl, ap, ap₂, _∙_}
+use mathlib.Core.List.{List, [], _∷_, _++_}
 use Prim.Native.Nat.{ℕ, _+_, _<_}
 use native.Mathlib.Omega.{arith}
 use Rattle.lines.specs.Delay.{total, zeros}
 use Rattle.lines.specs.Stream.{back}
-use Rattle.lines.specs.Stream.Late.{back-later, back-before}
+use Rattle.lines.specs.Stream.Late.{back-later, back-before, back-pair}
+use Rattle.lines.specs.Chain.{chainAt}
 use Rattle.lines.specs.Chain.Fresh.{stays-fresh, late-store}
-use Rattle.circ.specs.Rows.{placed, beforeC2, between, afterC1, readerBeforeC1, readerBetween, readerAfterC2, mask, inverted}
-use Rattle.circ.specs.Chains.{withQ, withP, writerOut, writerNext, writerAt, throughC1, throughC2, readerOut, readerDoubt, readerNext, readerAt, freshWriter, freshReader}
-use Rattle.circ.specs.Codes.{qOf, pOf, corrected, lost}
+use Rattle.circ.specs.Rows.{placed, beforeC2, between, afterC1, readerBeforeC1, readerBetween, readerAfterC2, mask}
+use Rattle.circ.specs.Chains.{withQ, withP, writerOut, writerNext, writerAt, freshWriter}
+use Rattle.circ.specs.Codes.{qOf, pOf}
+use Rattle.circ.specs.Marked.{twice, entering, passC1, passC2, markedOut, markedDoubt, markedNext, markedAt, freshReader}
 use Rattle.circ_streams.specs.Streams.{f2At, f1At, doubtAt}
-use Rattle.circ_streams.specs.Inner.Settled.{writer-settled, writer-zeros, reader-settled, reader-zeros, reader-sure}
+use Rattle.circ_streams.specs.Inner.Settled.{writer-settled, writer-zeros, quiet, reader-settled, reader-zeros, reader-sure}
 
 -- ---- the writer
 
@@ -46,28 +48,39 @@ module _ (f : ℕ → List ℕ) (k : ℕ) where
 
 -- ---- the reader
 
-module _ (g : ℕ → List ℕ) (k : ℕ) where
-  -- k such F2-frames and then g: the state at step k + n is that of g at step n
-  pub reader-state-late : (n : ℕ) → readerAt corrected corrected lost (back mask g k) (k + n) ≡ readerAt corrected corrected lost g n
-  unfolding readerAt readerNext readerBeforeC1 readerBetween readerAfterC2 total
-  reader-state-late n = late-store readerBeforeC1 readerBetween readerAfterC2 inverted (throughC1 corrected) (throughC2 corrected lost) mask reader-settled g k n
+-- the frames g with the marks k behind them, and j such F2-frames without marks before them: as a stream of both
+both-late : (g k : ℕ → List ℕ) (j : ℕ) → (λ m. back mask g j m ++ back (zeros 32) k j m) ≡ back quiet (λ m. g m ++ k m) j
+both-late g k j = λ i m. back-pair _++_ mask (zeros 32) g k j m i
+
+module _ (g k : ℕ → List ℕ) (j : ℕ) where
+  -- j such F2-frames and then g: the state at step j + n is that of g at step n
+  pub reader-state-late : (n : ℕ) → markedAt (back mask g j) (back (zeros 32) k j) (j + n) ≡ markedAt g k n
+  unfolding markedAt markedNext readerBeforeC1 readerBetween readerAfterC2 total
+  reader-state-late n =
+      ap (λ (x : ℕ → List ℕ). chainAt (twice readerBeforeC1) (twice readerBetween) readerAfterC2 entering passC1 passC2 x (j + n)) (both-late g k j)
+      ∙ late-store (twice readerBeforeC1) (twice readerBetween) readerAfterC2 entering passC1 passC2 quiet reader-settled (λ m. g m ++ k m) j n
+
+  frame-late : (n : ℕ) → back mask g j (j + n) ++ back (zeros 32) k j (j + n) ≡ g n ++ k n
+  frame-late n = ap₂ _++_ (back-later mask g j n) (back-later (zeros 32) k j n)
 
   -- and so are the F1-frame and its doubt mark
-  pub reader-late : (n : ℕ) → (f1At (back mask g k) (k + n) ≡ f1At g n) × (doubtAt (back mask g k) (k + n) ≡ doubtAt g n)
-  reader-late n = (
-    ap₂ (readerOut corrected corrected lost) (reader-state-late n) (back-later mask g k n),
-    ap₂ (readerDoubt corrected corrected lost) (reader-state-late n) (back-later mask g k n),
-  )
+  pub reader-late : (n : ℕ)
+      → (f1At (back mask g j) (back (zeros 32) k j) (j + n) ≡ f1At g k n) × (doubtAt (back mask g j) (back (zeros 32) k j) (j + n) ≡ doubtAt g k n)
+  reader-late n = (ap₂ markedOut (reader-state-late n) (frame-late n), ap₂ markedDoubt (reader-state-late n) (frame-late n))
 
-  stays-new-reader : (n : ℕ) → n < k → readerAt corrected corrected lost (back mask g k) n ≡ freshReader
-  unfolding readerAt readerNext readerBeforeC1 readerBetween readerAfterC2 total
+  stays-new-reader : (n : ℕ) → n < j → markedAt (back mask g j) (back (zeros 32) k j) n ≡ freshReader
+  unfolding markedAt markedNext readerBeforeC1 readerBetween readerAfterC2 total
   stays-new-reader n h =
-      stays-fresh readerBeforeC1 readerBetween readerAfterC2 inverted (throughC1 corrected) (throughC2 corrected lost) mask reader-settled (back mask g k) n
-      (λ m l. back-before mask g k m (omega arith))
+      ap (λ (x : ℕ → List ℕ). chainAt (twice readerBeforeC1) (twice readerBetween) readerAfterC2 entering passC1 passC2 x n) (both-late g k j)
+      ∙ stays-fresh (twice readerBeforeC1) (twice readerBetween) readerAfterC2 entering passC1 passC2 quiet reader-settled (back quiet (λ m. g m ++ k m) j) n
+      (λ m l. back-before quiet (λ m. g m ++ k m) j m (omega arith))
 
-  -- before step k it gives zeros, without doubt
-  pub reader-before : (n : ℕ) → n < k → (f1At (back mask g k) n ≡ zeros 24) × (doubtAt (back mask g k) n ≡ 0)
+  frame-before : (n : ℕ) → n < j → back mask g j n ++ back (zeros 32) k j n ≡ quiet
+  frame-before n h = ap₂ _++_ (back-before mask g j n h) (back-before (zeros 32) k j n h)
+
+  -- before step j it gives zeros, without doubt
+  pub reader-before : (n : ℕ) → n < j → (f1At (back mask g j) (back (zeros 32) k j) n ≡ zeros 24) × (doubtAt (back mask g j) (back (zeros 32) k j) n ≡ 0)
   reader-before n h = (
-    ap₂ (readerOut corrected corrected lost) (stays-new-reader n h) (back-before mask g k n h) ∙ reader-zeros,
-    ap₂ (readerDoubt corrected corrected lost) (stays-new-reader n h) (back-before mask g k n h) ∙ reader-sure,
+    ap₂ markedOut (stays-new-reader n h) (frame-before n h) ∙ reader-zeros,
+    ap₂ markedDoubt (stays-new-reader n h) (frame-before n h) ∙ reader-sure,
   )

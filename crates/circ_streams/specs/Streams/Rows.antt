@@ -8,13 +8,14 @@ use lib.ListN.{length, getD}
 use Rattle.codeword.specs.Code.{Codeword}
 use Rattle.lines.specs.Stream.{back}
 use Rattle.circ.specs.Rows.{rowsOfBytes, rowDelay, readerAfterC2}
-use Rattle.circ.specs.Chains.{c2Word, c1Word, metC2}
-use Rattle.circ.specs.Codes.{qOf, pOf, corrected, lost}
-use Rattle.circ_streams.specs.Inner.Codes.{circ-coding, length-corrected}
+use Rattle.circ.specs.Chains.{c2Word, c1Word}
+use Rattle.circ.specs.Codes.{qOf, pOf, treated}
+use Rattle.circ.specs.Marked.{wordMetC2, marksMetC2}
+use Rattle.circ_streams.specs.Inner.Codes.{circ-coding}
 use Rattle.circ_streams.specs.Inner.WriterWords as writing
 use Rattle.circ_streams.specs.Inner.WriterRows as rows
-use Rattle.circ_streams.specs.Inner.ReaderRows as received
-use Rattle.circ_streams.specs.Streams.{F1Frames, f2At, f1At}
+use Rattle.circ_streams.specs.Inner.MarkedRows.{byte-marked}
+use Rattle.circ_streams.specs.Streams.{F1Frames, MarksOf, f2At, f1At}
 
 module _ (f : ℕ → List ℕ) (frames : F1Frames f) where
   -- every C2 word and every C1 word is a codeword
@@ -36,10 +37,11 @@ module _ (f : ℕ → List ℕ) (frames : F1Frames f) where
   pub p-row : (i n : ℕ) → i < 4 → getD (f2At f n) (28 + i) 0 ≡ bitXor (back 0 (λ m. getD (c1Word qOf pOf f m) (28 + i) 0) (rowDelay (28 + i)) n) 255
   p-row i n h = rows.p-written circ-coding f i n h
 
--- ---- any F2-frames
+-- ---- any F2-frames, with any marks
 
-module _ (g : ℕ → List ℕ) (long : (n : ℕ) → length (g n) ≡ 32) where
-  -- F1 byte b of step n: of the C2 word of that step where its row does not wait after C2, else of the one two steps before
+module _ (g k : ℕ → List ℕ) (long : (n : ℕ) → length (g n) ≡ 32) (marks : MarksOf k) where
+  -- F1 byte b of step n: of what C2 handed on at that step where its row does not wait after C2, else of what it did two steps before
   pub byte-of-c2 : (b n : ℕ) → b < 24
-      → getD (f1At g n) b 0 ≡ back 0 (λ m. getD (corrected (metC2 corrected g m)) (getD rowsOfBytes b 0) 0) (getD readerAfterC2 (getD rowsOfBytes b 0) 0) n
-  byte-of-c2 b n h = received.byte-read corrected corrected lost length-corrected length-corrected g long b n h
+      → getD (f1At g k n) b 0
+      ≡ back 0 (λ m. getD (treated 4 (marksMetC2 g k m) (wordMetC2 g k m)) (getD rowsOfBytes b 0) 0) (getD readerAfterC2 (getD rowsOfBytes b 0) 0) n
+  byte-of-c2 = byte-marked g k long marks

@@ -20,10 +20,10 @@ use Rattle.field.specs.Field.{power, mul}
 use Rattle.field.specs.Field.Linear.{mul-zero-l}
 use Rattle.field.specs.Field.Powers.{power-lt}
 use Rattle.field.specs.Field.Product.{mul-power-add}
-use Rattle.codeword.specs.Code.{sum, Codeword, changes}
+use Rattle.codeword.specs.Code.{sum, Codeword, changes, weight}
 use Rattle.codeword.specs.Code.Sums.{times-none, sum-added}
 use Rattle.codeword.specs.Code.Changes.{unlike-same, unlike-other, unlike-le}
-use Rattle.codeword.specs.Code.OneSumLess.{weight, zeros, head-zero, twist, length-twist, bytes-twist, weight-twist, sum-twist, untwist}
+use Rattle.codeword.specs.Code.OneSumLess.{zeros, head-zero, twist, length-twist, bytes-twist, weight-twist, sum-twist, untwist}
 
 -- ---- the law
 

@@ -1,15 +1,12 @@
--- How many bytes of a word are not 0; and a word twisted by c, each byte times (its weight + c), which has one sum 0 less and, where c is
--- the weight of a byte, that byte 0.
+-- A word twisted by c, each byte times (its weight + c), which has one sum 0 less and, where c is the weight of a byte, that byte 0.
 -- Assumes nothing.
 use mathlib.Core.Path.{_≡_, refl, sym, ap, ap₂, _∙_}
-use mathlib.Core.Bool.{cond}
 use mathlib.Core.List.{List, [], _∷_}
-use Prim.Native.Nat.{ℕ, suc, _+_, _*_, _≤_, _<_}
+use Prim.Native.Nat.{ℕ, suc, _*_, _≤_, _<_}
 use native.Mathlib.Nat.{suc-mul, add-comm}
 use native.Mathlib.Decide.{ℕ-discrete}
 use native.Mathlib.Omega.{arith}
 use lib.Bits.{bitXor, xor-lt}
-use lib.Dec.{eqb}
 use lib.ListN.{length, replicate}
 use Rattle.outcome.specs.Bytes.{Bytes}
 use Rattle.outcome.specs.Bytes.Kept.{bytes-nil, bytes-cons}
@@ -18,13 +15,8 @@ use Rattle.field.specs.Field.{power, mul}
 use Rattle.field.specs.Field.Linear.{mul-xor, mul-xor-r, mul-zero-l}
 use Rattle.field.specs.Field.Powers.{power-lt, power-inj}
 use Rattle.field.specs.Field.Product.{mul-swap, mul-byte, mul-domain, mul-power-add}
-use Rattle.codeword.specs.Code.{sum}
+use Rattle.codeword.specs.Code.{sum, weight}
 use Rattle.codeword.specs.Code.Changes.{unlike-same, unlike-other, unlike-le}
-
--- how many bytes are not 0
-unfoldable pub weight : List ℕ → ℕ
-weight [] = 0
-weight (x ∷ d) = cond (eqb x 0) 0 1 + weight d
 
 abbrev pub zeros : List ℕ → List ℕ
 zeros d = replicate (length d) 0
@@ -34,7 +26,7 @@ head-zero x d e f = ap₂ _∷_ e f
 
 -- ---- each byte times (its weight + c)
 
-pub twist : ℕ → List ℕ → List ℕ
+unfoldable pub twist : ℕ → List ℕ → List ℕ
 twist c [] = []
 twist c (b ∷ d) = mul b (bitXor (power (length d)) c) ∷ twist c d
 

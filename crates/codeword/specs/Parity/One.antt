@@ -14,10 +14,9 @@ use Rattle.field.specs.Field.{power, mul}
 use Rattle.field.specs.Field.Linear.{mul-one-r}
 use Rattle.field.specs.Field.Powers.{power-zero, power-mod}
 use Rattle.field.specs.Field.Product.{mul-nonzero, mul-power-add}
-use Rattle.codeword.specs.Code.{sum, Codeword}
+use Rattle.codeword.specs.Code.{sum, Codeword, weight}
 use Rattle.codeword.specs.Code.Sums.{times-0, sum-lt, sum-append, sum-part}
 use Rattle.codeword.specs.Code.Changes.{unlike-le, changes-le}
-use Rattle.codeword.specs.Code.OneSumLess.{weight}
 use Rattle.codeword.specs.Code.Distance.{distance, added-zero, same-sums}
 use Rattle.codeword.specs.Parity.{WithSums, Parity}
 

@@ -26,6 +26,13 @@ back-map f z x zero n = refl
 back-map f z x (suc d) zero = refl
 back-map f z x (suc d) (suc n) = back-map f z x d n
 
+-- a function of two streams that come late alike
+pub back-pair : {A B C : Type 0} (f : A → B → C) (y : A) (z : B) (v : ℕ → A) (w : ℕ → B) (d n : ℕ) → f (back y v d n) (back z w d n) ≡ back (f y z) (λ m. f (v m) (w m)) d n
+unfolding back
+back-pair f y z v w zero n = refl
+back-pair f y z v w (suc d) zero = refl
+back-pair f y z v w (suc d) (suc n) = back-pair f y z v w d n
+
 -- what holds of all that goes in and of what was before the start, holds of what comes out
 pub back-all : {A : Type 0} (P : A → Type 0) (z : A) (x : ℕ → A) (d n : ℕ) → P z → ((m : ℕ) → P (x m)) → P (back z x d n)
 unfolding back
@@ -49,3 +56,10 @@ unfolding back
 back-before z x zero n h = absurd (not-suc-le-zero h)
 back-before z x (suc d) zero h = refl
 back-before z x (suc d) (suc n) h = back-before z x d n (le-of-suc-le-suc h)
+
+-- two streams that agree wherever a third is 0 do so d steps later
+pub back-agree : (x y m : ℕ → ℕ) (d n : ℕ) → ((j : ℕ) → m j ≡ 0 → x j ≡ y j) → back 0 m d n ≡ 0 → back 0 x d n ≡ back 0 y d n
+unfolding back
+back-agree x y m zero n h z = h n z
+back-agree x y m (suc d) zero h z = refl
+back-agree x y m (suc d) (suc n) h z = back-agree x y m d n h z

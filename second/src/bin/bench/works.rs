@@ -110,24 +110,43 @@ fn frames(sector: &[u8]) -> Vec<Work> {
     steps.map(work).into()
 }
 
+/// F2-frames with marks behind each: those of a frame's first three even rows say that they are lost where `lost` does, so that its
+/// C1 word goes on marked whole.
+fn with_marks(f2: &[u8], lost: impl Fn(usize) -> bool) -> Vec<u8> {
+    let mut all = Vec::new();
+    for (n, frame) in f2.chunks(32).enumerate() {
+        all.extend(frame);
+        all.extend((0..32).map(|row| (lost(n) && [0, 2, 4].contains(&row)) as u8));
+    }
+    all
+}
+
 fn circ(sector: &[u8]) -> Vec<Work> {
     type Run = fn(&[u8], &mut [u8], &mut [u8]);
-    let mut f2 = vec![0; FRAME_BYTES];
-    proved::circ_write(sector, &mut [24, 32].repeat(FRAMES), &mut f2);
+    const SIX: usize = 6 * FRAMES;
+    let six = sector.repeat(6);
+    let mut f2 = vec![0; SIX * 32];
+    proved::circ_write(&six, &mut [24, 32].repeat(SIX), &mut f2);
     let work = |name, most, run: Run, frames: &[u8], lengths: [u8; 2]| {
         let frames = frames.to_vec();
-        let mut out = vec![0; FRAMES * lengths[1] as usize];
-        let lengths = lengths.repeat(FRAMES);
+        let count = frames.len() / lengths[0] as usize;
+        let mut out = vec![0; count * lengths[1] as usize];
+        let lengths = lengths.repeat(count);
         let once = move || {
             let mut steps = lengths.clone();
             run(black_box(&frames), &mut steps, black_box(&mut out));
-            assert!(steps == [0; 2 * FRAMES]);
+            assert!(steps.iter().all(|&answer| answer == 0));
         };
-        Work::new(name, Some(most), once)
+        Work::new(name, most, once)
     };
+    // Row k of a C2 word is of the C1 word 108 - 4k steps before: with four lost of each 28, every C2 word has four lost rows.
+    let plain = with_marks(&f2[..FRAME_BYTES], |_| false);
+    let lost = with_marks(&f2, |n| n / 4 % 7 == 0);
+    let read: Run = proved::circ_read;
     vec![
-        work("CIRC writer, 98 frames", 15.0, proved::circ_write, sector, [24, 32]),
-        work("CIRC reader, 98 frames, undamaged", 25.0, proved::circ_read, &f2, [32, 24]),
+        work("CIRC writer, 98 frames", Some(15.0), proved::circ_write, sector, [24, 32]),
+        work("CIRC reader, 98 frames, undamaged", Some(25.0), read, &plain, [64, 24]),
+        work("CIRC reader, 588 frames, four erasures in each C2 word", None, read, &lost, [64, 24]),
     ]
 }
 

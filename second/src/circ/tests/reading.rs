@@ -2,13 +2,6 @@
 
 use super::*;
 
-/// What reading the frames must give if nothing is lost: zeros for 111 steps, then the frames, without doubt.
-fn expected(frames: &[Vec<u8>]) -> Vec<(Vec<u8>, bool)> {
-    let late = vec![vec![0; 24]; 111];
-    let all = late.iter().chain(frames).take(frames.len());
-    all.map(|frame| (frame.clone(), false)).collect()
-}
-
 #[test]
 fn undamaged_frames_come_back_after_111_steps() {
     let frames = some_frames(&mut Random::new(1), 2000);
@@ -50,50 +43,56 @@ fn three_lost_frames_are_mended() {
     }
 }
 
-/// Three wrong bytes in even rows of single frames: C1 finds no codeword and hands them on as they are, and `wrong[n]`
-/// tells how many reach the C2 word of step n. One is mended; two or three are doubted.
+/// Two wrong bytes in even rows of single frames: C1 finds no codeword, and marks its word whole. `lost[n]` tells how many of
+/// these reach the C2 word of step n. Up to four are filled; more are doubted.
 #[test]
 fn doubt_is_told_exactly() {
     let mut random = Random::new(4);
-    let frames = some_frames(&mut random, 600);
+    let frames = some_frames(&mut random, 900);
     let mut f2 = written(&frames);
-    let mut wrong = vec![0; 600];
-    for step in random.places(40, 450) {
-        for row in [0, 8, 16 + 2 * random.below(3)] {
+    let mut lost = vec![0; 900];
+    for step in random.places(130, 700) {
+        for row in [0, 8] {
             f2[step][row] ^= random.change();
-            wrong[step + 4 * (27 - row)] += 1;
+        }
+        for row in 0..28 {
+            lost[step + 4 * (27 - row)] += 1;
         }
     }
-    assert!(wrong.contains(&2) && wrong.iter().all(|&count| count <= 3));
+    assert!((1..=6).all(|count| lost.contains(&count)));
     let plain = expected(&frames);
     for (n, (frame, doubt)) in read(&f2).into_iter().enumerate() {
-        let lost = wrong[n] >= 2 || n >= 2 && wrong[n - 2] >= 2;
-        assert_eq!(doubt, lost, "step {n}");
-        if !lost {
+        let doubted = lost[n] > 4 || n >= 2 && lost[n - 2] > 4;
+        assert_eq!(doubt, doubted, "step {n}");
+        if !doubted {
             assert_eq!(frame, plain[n].0, "step {n}");
         }
     }
 }
 
-/// Two wrong bytes in one C2 word, which hands its bytes on as they came, in two F1-frames: both are in doubt, no third.
+/// Five marked bytes in one C2 word, which hands its bytes on as they came, in two F1-frames: both are in doubt, no third.
 #[test]
 fn a_lost_c2_word_puts_two_frames_in_doubt_and_goes_on_as_it_came() {
     let frames = some_frames(&mut Random::new(5), 400);
     let mut f2 = written(&frames);
-    // Rows 0 and 20 of the C2 word of step 300 come from the C1 words of steps 192 and 272, each with two wrong bytes.
-    for (step, rows) in [(300 - 4 * 27, [0, 2]), (300 - 4 * 7, [20, 24])] {
-        for row in rows {
-            f2[step][row] ^= 0x41;
+    // Rows 0, 4, 8, 20 and 27 of the C2 word of step 300 come from C1 words that each have two wrong bytes, those of odd rows from
+    // the frame before. No other C2 word has five rows of these.
+    for row in [0, 4, 8, 20, 27] {
+        for wrong in [row, 31 - row] {
+            f2[300 - 4 * (27 - row) - wrong % 2][wrong] ^= 0x41;
         }
     }
     let plain = expected(&frames);
     for (n, (frame, doubt)) in read(&f2).into_iter().enumerate() {
         assert_eq!(doubt, n == 300 || n == 302, "step {n}");
         let mut wanted = plain[n].0.clone();
-        match n {
-            300 => wanted[F1_BYTE[0].unwrap()] ^= 0x41,
-            302 => wanted[F1_BYTE[20].unwrap()] ^= 0x41,
-            _ => {}
+        let rows = match n {
+            300 => vec![0, 4, 8],
+            302 => vec![20, 27],
+            _ => vec![],
+        };
+        for row in rows {
+            wanted[F1_BYTE[row].unwrap()] ^= 0x41;
         }
         assert_eq!(frame, wanted, "step {n}");
     }
@@ -107,18 +106,23 @@ fn refused_steps_leave_the_state_as_it_was() {
         frame[random.below(32)] ^= random.change();
     }
     let mut reader = CircReader::new();
+    let marks = [0; 32];
     for (frame, (bytes, doubt)) in f2.iter().zip(read(&f2)) {
         let before = reader.clone();
         let mut out = [0xAA; 24];
         let mut long = [0xAA; 25];
-        assert_eq!(reader.step(&frame[..31], &mut out), Err(WrongIncoming));
+        assert_eq!(reader.step(&frame[..31], &marks, &mut out), Err(WrongIncoming));
         assert_eq!(out, [0; 24]);
-        assert_eq!(reader.step(&[0; 33], &mut long), Err(WrongIncoming));
-        assert_eq!(reader.step(frame, &mut long), Err(WrongOutgoing));
-        assert_eq!(reader.step(frame, &mut []), Err(WrongOutgoing));
+        out.fill(0xAA);
+        assert_eq!(reader.step(frame, &marks[..31], &mut out), Err(WrongIncoming));
+        assert_eq!(out, [0; 24]);
+        assert_eq!(reader.step(&[0; 33], &marks, &mut long), Err(WrongIncoming));
+        assert_eq!(reader.step(frame, &[0; 33], &mut long), Err(WrongIncoming));
+        assert_eq!(reader.step(frame, &marks, &mut long), Err(WrongOutgoing));
+        assert_eq!(reader.step(frame, &marks, &mut []), Err(WrongOutgoing));
         assert_eq!(long, [0xAA; 25]);
         assert_eq!(reader, before);
-        assert_eq!(reader.step(frame, &mut out), Ok(doubt));
+        assert_eq!(reader.step(frame, &marks, &mut out), Ok(doubt));
         assert_eq!(out, bytes.as_slice());
     }
 }

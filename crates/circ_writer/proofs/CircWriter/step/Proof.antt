@@ -2,6 +2,9 @@
 -- Assumes nothing.
 use mathlib.Core.Path.{ap₂, _∙_}
 use mathlib.Core.List.{[]}
+use borrow.Author.Tests.{eq-eqb, ne-eqb}
+use lib.Dec.{eqb}
+use lib.ListN.{length}
 use Rattle.circ_writer.specs.declared.WriterAnswer.{WriterAnswer}
 use Rattle.circ_writer.specs.declared.CircWriter.{CircWriter}
 use Rattle.circ_writer.specs.Answers.{sayOf}
@@ -24,7 +27,8 @@ returns : tie.Need-returns
 returns c =
     let start = c .before .before .before .before .before .before .before .before in
     ap₂ (λ (a : WriterAnswer) (s : CircWriter). step (sayOf a) (s .line) (c .before .before .before .wipe .last .0)) (c .refuse .ensures .1) (c .refuse .ensures .0)
-    ∙ wrong-incoming 24 32 [] _ _ (start .args .self .line) (start .args .frame .now) (start .args .out .now) (c .before .before .before .before .before .if1 .taken) _ (c .before .before .before .wipe .ensures)
+    ∙ wrong-incoming (eqb (length (start .args .frame .now)) 24) 32 [] _ _ (start .args .self .line) (start .args .out .now)
+    (ne-eqb (length (start .args .frame .now)) 24 (c .before .before .before .before .before .if1 .taken)) _ (c .before .before .before .wipe .ensures)
 
 refuse-requires-2 : tie.Need-refuse-requires-2
 refuse-requires-2 c κs = search needs
@@ -33,7 +37,8 @@ returns-2 : tie.Need-returns-2
 returns-2 c =
     let start = c .before .before .before .before .before in
     ap₂ (λ (a : WriterAnswer) (s : CircWriter). step (sayOf a) (s .line) (start .args .out .now)) (c .refuse2 .ensures .1) (c .refuse2 .ensures .0)
-    ∙ wrong-outgoing 24 32 [] _ _ (start .args .self .line) (start .args .frame .now) (start .args .out .now) (c .before .before .if1 .left) (c .before .if2 .taken)
+    ∙ wrong-outgoing (eqb (length (start .args .frame .now)) 24) 32 [] _ _ (start .args .self .line) (start .args .out .now)
+    (eq-eqb (length (start .args .frame .now)) 24 (c .before .before .if1 .left)) (c .before .if2 .taken)
 
 go-requires : tie.Need-go-requires
 go-requires c κs = search needs
@@ -45,7 +50,8 @@ returns-3 : tie.Need-returns-3
 returns-3 c =
     let go = c .before .before in
     let start = go .before .before .before .before .before .before in
-    right 24 32 [] _ _ (start .args .self .line) (start .args .frame .now) (start .args .out .now) (go .before .before .before .if1 .left) (go .before .before .if2 .left) _ _
+    right (eqb (length (start .args .frame .now)) 24) 32 [] _ _ (start .args .self .line) (start .args .out .now)
+    (eq-eqb (length (start .args .frame .now)) 24 (go .before .before .before .if1 .left)) (go .before .before .if2 .left) _ _
     (go .go .ensures .0)
     (go .go .ensures .1)
 

@@ -1,0 +1,4 @@
+mod Mending
+mod Treating
+mod Passing
+mod Keeping

@@ -1,0 +1,3 @@
+mod Sweep
+mod Zeros
+mod Adding
