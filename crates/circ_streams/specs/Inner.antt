@@ -20,3 +20,4 @@ pub mod Weights
 pub mod Spread
 pub mod Within
 pub mod TooLong
+pub mod CallsWithin

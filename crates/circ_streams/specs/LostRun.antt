@@ -9,6 +9,7 @@ use lib.ListN.{length, getD}
 use Rattle.circ.specs.Marks.{lostBy}
 use Rattle.circ_streams.specs.Streams.{MarksOf, f2At}
 use Rattle.circ_streams.specs.Calls.{MarkedFrame, marked}
+pub mod Any
 pub mod Streams
 pub mod Calls
 
