@@ -1,5 +1,5 @@
-//! One run of lost frames (document 02, §8) through the proved CIRC writer and reader, both fresh: after up to fifteen every F1-frame comes
-//! back, sixteen bring doubt.
+//! One run of lost frames (document 02, §8) through the proved CIRC writer and reader, both fresh: after up to fifteen every
+//! F1-frame comes back, sixteen bring doubt.
 
 use second::proved;
 use second::random::Random;
@@ -15,8 +15,8 @@ const STARTS: usize = 401;
 const FRAMES: usize = STARTS + 20 + BEHIND;
 
 /// What comes in place of a lost frame.
-const FILLS: [fn(&mut Random) -> Vec<u8>; 3] =
-    [|_| vec![0; 32], |_| vec![0xFF; 32], |random| random.bytes(32)];
+type Fill = fn(&mut Random) -> Vec<u8>;
+const FILLS: [Fill; 3] = [|_| vec![0; 32], |_| vec![0xFF; 32], |random| random.bytes(32)];
 
 /// A random stream: its F1-frames, and its F2-frames with no marks behind each.
 struct Stream {
@@ -43,11 +43,12 @@ impl Stream {
     }
 
     /// The first `count` frames with these among them lost, each of their bytes marked with 1 or 4.
-    fn read(&mut self, count: usize, lost: Range<usize>, fill: fn(&mut Random) -> Vec<u8>) -> Given {
+    fn read(&mut self, count: usize, lost: Range<usize>, fill: Fill) -> Given {
         let mut incoming = self.f2[..64 * count].to_vec();
         for n in lost {
             let marks: Vec<u8> = (0..32).map(|_| [1, 4][self.random.below(2)]).collect();
-            incoming[64 * n..64 * n + 64].copy_from_slice(&[fill(&mut self.random), marks].concat());
+            let frame = [fill(&mut self.random), marks].concat();
+            incoming[64 * n..64 * (n + 1)].copy_from_slice(&frame);
         }
         let (mut answers, mut frames) = ([64, 24].repeat(count), vec![0xAA; 24 * count]);
         proved::circ_read(&incoming, &mut answers, &mut frames);
@@ -76,8 +77,7 @@ fn up_to_fifteen_come_back() {
     }
 }
 
-/// Fifteen at the very start and at the very end of streams of every length, with each filling: what has been read is right, although the run
-/// is still on its way.
+/// Fifteen at the very start and at the very end of streams of many lengths, with each filling.
 #[test]
 fn at_the_start_and_at_the_end() {
     let mut stream = Stream::new(2);
