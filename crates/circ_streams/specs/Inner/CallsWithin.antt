@@ -37,7 +37,7 @@ first-values z x (y ∷ l) k h =
     (first-values z x l (suc k) (λ i p. h (suc i) (omega arith) ∙ ap x (add-suc k i ∙ sym (suc-add k i))))
 
 -- within a list what stands behind it does not matter
-same-within : {A : Type 0} (y z : A) (l : List A) (n : ℕ) → n < length l → getD l n y ≡ getD l n z
+pub same-within : {A : Type 0} (y z : A) (l : List A) (n : ℕ) → n < length l → getD l n y ≡ getD l n z
 same-within y z [] n h = absurd (not-suc-le-zero h)
 same-within y z (x ∷ l) zero h = refl
 same-within y z (x ∷ l) (suc n) h = same-within y z l n (le-of-suc-le-suc h)
