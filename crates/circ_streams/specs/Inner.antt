@@ -15,3 +15,9 @@ pub mod MarkedStreams
 pub mod MarkRows
 pub mod MarkedRows
 pub mod AsWritten
+-- runs of lost frames (document 02, §8)
+pub mod Weights
+pub mod Spread
+pub mod Within
+pub mod TooLong
+pub mod CallsWithin
