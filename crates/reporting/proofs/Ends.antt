@@ -7,25 +7,11 @@ use types.Run.{OneOf, miss}
 use denote.Enum.Declared as enum
 use Rattle.text.specs.declared.Counts.{Counts}
 use Rattle.text.specs.Counting.{largest, noneCounted}
-use Rattle.reporting.specs.declared.Progress.{Progress}
-use Rattle.reporting.specs.declared.Stand.{Stand}
-use Rattle.reporting.specs.declared.Stand.the-variants.{Opening, Going, AtEnd, Closing, Done, ReadFailed, WriteFailed}
-use Rattle.reporting.specs.Run.{
-  Step,
-  opens,
-  counts-left,
-  closes,
-  unwritten,
-  Goes,
-  Run,
-  begins,
-  Reached,
-  Counted,
-  Turning,
-  Final,
-  Reported,
-}
-use Rattle.reporting.proofs.Stand as stand
+use Rattle.standing.specs.declared.Progress.{Progress}
+use Rattle.standing.specs.declared.Stand.{Stand}
+use Rattle.standing.specs.declared.Stand.the-variants.{Opening, Going, AtEnd, Closing, Done, ReadFailed, WriteFailed}
+use Rattle.reporting.specs.Run.{Step, opens, counts-left, closes, unwritten, Goes, Run, begins, Reached, Counted, Turning, Final, Reported}
+use Rattle.standing.proofs.Stand as stand
 use Rattle.reporting.proofs.Steps.{reach}
 
 first-turn : {s : Stand} {c d : Counts} {line : List ℕ} → Step Opening c line s d → Counted 0 s d

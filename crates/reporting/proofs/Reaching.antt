@@ -14,10 +14,11 @@ use Rattle.reading.specs.declared.Filled.{Filled}
 use Rattle.reading.specs.declared.Read.{Read}
 use Rattle.reading.specs.declared.Read.the-variants.{Failed, End, More}
 use Rattle.reading.specs.Reading.{StoppedAt, Fills}
-use Rattle.reporting.specs.declared.Progress.{Progress}
-use Rattle.reporting.specs.declared.Stand.{Stand}
-use Rattle.reporting.specs.declared.Stand.the-variants.{Going}
-use Rattle.reporting.specs.Run.{tells, ends, unread, goes, Reached, isOver, ahead, standOf, standAfter, Counted, Turning}
+use Rattle.standing.specs.declared.Progress.{Progress}
+use Rattle.standing.specs.declared.Stand.{Stand}
+use Rattle.standing.specs.declared.Stand.the-variants.{Going}
+use Rattle.standing.specs.Standing.{isOver, ahead, standOf, standAfter}
+use Rattle.reporting.specs.Run.{tells, ends, unread, goes, Reached, Counted, Turning}
 use Rattle.reporting.specs.Run as run
 use Rattle.reporting.specs.Inner.Turn.{Lines, none, next, Told, all-told, unwritten, sectorsIn, Some, Turn}
 use Rattle.reporting.proofs.Steps.{going, turned-over}

@@ -12,10 +12,11 @@ use Rattle.text.specs.Counting.{noneCounted, countedWith}
 use Rattle.text.specs.Line.{Holds, written}
 use Rattle.text.specs.Line.More.{holds-written}
 use Rattle.text.specs.Report.{firstLine, fateLine, lastLine}
-use Rattle.reporting.specs.declared.Progress.{Progress}
-use Rattle.reporting.specs.declared.Stand.{Stand}
-use Rattle.reporting.specs.declared.Stand.the-variants.{Opening, Going, AtEnd, Closing, Done, ReadFailed, WriteFailed}
-use Rattle.reporting.specs.Run.{Step, opens, tells, closes, unwritten, Goes, goes, Reached, isOver, Counted, Turning, afterLine}
+use Rattle.standing.specs.declared.Progress.{Progress}
+use Rattle.standing.specs.declared.Stand.{Stand}
+use Rattle.standing.specs.declared.Stand.the-variants.{Opening, Going, AtEnd, Closing, Done, ReadFailed, WriteFailed}
+use Rattle.standing.specs.Standing.{isOver, afterLine}
+use Rattle.reporting.specs.Run.{Step, opens, tells, closes, unwritten, Goes, goes, Reached, Counted, Turning}
 use Rattle.reporting.specs.Inner.Turn.{Says, counted, Due}
 
 -- a line that the report has here may be said

@@ -29,11 +29,11 @@ use Rattle.text.specs.Counting.{largest, countedWith}
 use Rattle.text.specs.Counting.Room.{one-more}
 use Rattle.fate.specs.Fated.{fateFrom, Fated}
 use Rattle.fate.specs.Fated.InBatch.{fated-in-batch}
-use Rattle.reporting.specs.declared.Progress.{Progress}
-use Rattle.reporting.specs.declared.Stand.the-variants.{Going, Done, WriteFailed}
-use Rattle.reporting.specs.Run.{afterLine}
+use Rattle.standing.specs.declared.Progress.{Progress}
+use Rattle.standing.specs.declared.Stand.the-variants.{Going, Done, WriteFailed}
+use Rattle.standing.specs.Standing.{afterLine}
 use Rattle.reporting.specs.Inner.Turn.{Says, counted, Due, Lines, none, next, Told, all-told, unwritten, sectorsIn, Some}
-use Rattle.reporting.proofs.Stand as stand
+use Rattle.standing.proofs.Stand as stand
 
 -- no batch was taken: no Sector came
 pub nothing : (c : Counts) (r out : List ℕ) (a : Answer) {f : List SectorFate} {new : List ℕ} → OneOf (1 ∷ 2 ∷ []) (enum.tagOf answer.the-type a)

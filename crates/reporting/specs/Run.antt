@@ -1,21 +1,17 @@
 -- The run of a report: its steps, what each of them prints, and where it ends.
 -- Assumes nothing.
 use mathlib.Core.Path.{_≡_}
-use mathlib.Core.Bool.{Bool, true, false, cond}
 use mathlib.Core.List.{List, [], _++_}
-use Prim.Native.Nat.{ℕ, _-_, _%_, _<_, min}
+use Prim.Native.Nat.{ℕ, _<_}
 use lib.ListN.{length, take}
 use Rattle.text.specs.declared.Counts.{Counts}
 use Rattle.text.specs.declared.Fate.{Fate}
 use Rattle.text.specs.Counting.{largest, noneCounted, countedWith}
 use Rattle.text.specs.Report.{firstLine, fateLine, tailLine, lastLine}
 use Rattle.fate.specs.Fated.{Fated}
-use Rattle.reading.specs.declared.Filled.{Filled}
-use Rattle.reading.specs.declared.Read.{Read}
-use Rattle.reading.specs.declared.Read.the-variants.{Failed, End, More}
-use Rattle.reporting.specs.declared.Progress.{Progress}
-use Rattle.reporting.specs.declared.Stand.{Stand}
-use Rattle.reporting.specs.declared.Stand.the-variants.{Opening, Going, AtEnd, Closing, Done, ReadFailed, WriteFailed}
+use Rattle.standing.specs.declared.Progress.{Progress}
+use Rattle.standing.specs.declared.Stand.{Stand}
+use Rattle.standing.specs.declared.Stand.the-variants.{Opening, Going, AtEnd, Closing, Done, ReadFailed, WriteFailed}
 pub mod Seen
 pub mod Printed
 
@@ -52,16 +48,6 @@ pub record Reached (s : Stand) (c : Counts) : Type 0 where
   pub text : List ℕ
   pub run : Run text s c
 
--- no Sector follows
-abbrev pub isOver : Stand → Bool
-isOver Opening = true
-isOver Going = false
-isOver (AtEnd left) = true
-isOver Closing = true
-isOver Done = true
-isOver ReadFailed = true
-isOver WriteFailed = true
-
 -- n Sectors are counted if it goes on, and else the input ended or something failed
 abbrev pub Counted : ℕ → Stand → Counts → Type 0
 Counted n Opening c = ⊥
@@ -89,21 +75,3 @@ Final WriteFailed c = Unit {0}
 pub record Reported (p : Progress) : Type 0 where
   pub reached : Reached (p .stand) (p .counts)
   pub final : Final (p .stand) (p .counts)
-
--- how many Sectors are asked for at once: sixteen, or as many as can still be counted
-abbrev pub ahead : Counts → ℕ
-ahead c = min 16 (largest - c .sectors)
-
--- how it stands when the lines of the whole Sectors that came are out: if all that were asked for came it goes on; at the input's end it
--- is there, with what is left of a Sector; and a failure ends it
-abbrev pub standOf : ℕ → Read → Stand
-standOf have (More n) = Going
-standOf have End = AtEnd (have % 2352)
-standOf have Failed = ReadFailed
-
-abbrev pub standAfter : Filled → Stand
-standAfter f = standOf (f .have) (f .last)
-
--- how far a report is after a line that leads to q: there if all of it went out, and else at its end
-abbrev pub afterLine : Bool → Counts → Progress → Progress
-afterLine went c q = cond went q (record { counts = c; stand = WriteFailed })

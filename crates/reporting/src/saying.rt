@@ -3,12 +3,12 @@ ghost use mathlib.Core.Path.{_≡_};
 ghost use Prim.Native.Nat.{_≤_};
 ghost use Rattle.text.specs.Counting.{largest};
 ghost use Rattle.text.specs.Line.{written};
-ghost use Rattle.reporting.specs.Run.{Step, Goes, afterLine, Turning, Reported};
+ghost use Rattle.reporting.specs.Run.{Step, Goes, Turning, Reported};
 ghost use Rattle.reporting.specs.Inner.Turn.{Says, counted, Due, Some, sectorsIn, Told};
-use crate::Progress;
-use crate::Stand;
 use batch::Answer;
 use libc::STDOUT_FILENO;
+use standing::Progress;
+use standing::Stand;
 use text::Counts;
 use text::Fate;
 use text::Text;
@@ -22,25 +22,12 @@ fn print(line: Text) -> bool
     io::write_all(STDOUT_FILENO, &bytes[..n])
 }
 
-// How far a report is after a line that leads to `next`: there if all of it went out, and else it ends where it was.
-fn after_line(went: bool, counts: Counts, next: Progress) -> Progress
-    ensures { λ r. ⌜ r ≡ afterLine went counts next ⌝ }
-{
-    if went {
-        return next;
-    }
-    Progress {
-        counts,
-        stand: Stand::WriteFailed,
-    }
-}
-
 // Prints the line that leads from here to `next`.
 fn say(stand: Stand, counts: Counts, line: Text, next: Progress) -> Progress
     requires { ⌜ (line .len ≤ 96) × Step stand counts (written line) (next .stand) (next .counts) ⌝ }
     ensures { λ r. ⌜ Says stand counts next r ⌝ }
 {
-    after_line(print(line), counts, next)
+    standing::after_line(print(line), counts, next)
 }
 
 // Prints the line of a Sector with this fate and counts it.

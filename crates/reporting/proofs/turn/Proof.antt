@@ -7,7 +7,7 @@ use borrow.Author.Needs.{needs}
 use lib.ListN.{length, take}
 use lib.Seq.{length-front, length-take-le}
 use Rattle.reading.specs.Reading.{Fills}
-use Rattle.reporting.specs.Run.{ahead}
+use Rattle.standing.specs.Standing.{ahead}
 use Rattle.reporting.proofs.turn.Statement.{statement}
 use Rattle.reporting.proofs.turn.Tie as tie
 

@@ -8,7 +8,8 @@ use native.Mathlib.Omega.{arith}
 use borrow.Author.Needs.{needs}
 use lib.ListN.{length}
 use Rattle.text.specs.Counting.{largest}
-use Rattle.reporting.specs.Run.{isOver, Turning}
+use Rattle.standing.specs.Standing.{isOver}
+use Rattle.reporting.specs.Run.{Turning}
 use Rattle.reporting.proofs.Steps.{turned-over}
 use Rattle.reporting.proofs.Reaching.{ends-there, goes-on}
 use Rattle.reporting.proofs.turns.Statement.{statement}

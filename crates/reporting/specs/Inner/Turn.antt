@@ -12,10 +12,11 @@ use Rattle.text.specs.Counting.{largest, countedWith}
 use Rattle.fate.specs.Fated.{Fated}
 use Rattle.reading.specs.declared.Filled.{Filled}
 use Rattle.reading.specs.Reading.{Fills}
-use Rattle.reporting.specs.declared.Progress.{Progress}
-use Rattle.reporting.specs.declared.Stand.{Stand}
-use Rattle.reporting.specs.declared.Stand.the-variants.{Going, WriteFailed}
-use Rattle.reporting.specs.Run.{Goes, afterLine, ahead, standAfter}
+use Rattle.standing.specs.declared.Progress.{Progress}
+use Rattle.standing.specs.declared.Stand.{Stand}
+use Rattle.standing.specs.declared.Stand.the-variants.{Going, WriteFailed}
+use Rattle.standing.specs.Standing.{afterLine, ahead, standAfter}
+use Rattle.reporting.specs.Run.{Goes}
 
 -- a line that leads to `next` went out, or the report ends where it was
 pub record Says (s : Stand) (c : Counts) (next r : Progress) : Type 0 where

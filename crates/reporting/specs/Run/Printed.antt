@@ -9,8 +9,8 @@ use lib.ListN.{length, take, drop, take-append-drop}
 use Rattle.text.specs.declared.Counts.{Counts}
 use Rattle.text.specs.declared.Fate.{Fate}
 use Rattle.text.specs.Report.{firstLine, fateLine, fateLines, tailLine, lastLine, isClean, isRepaired, isRefused, howMany, report}
-use Rattle.reporting.specs.declared.Stand.{Stand}
-use Rattle.reporting.specs.declared.Stand.the-variants.{Opening, Going, AtEnd, Closing, Done, ReadFailed, WriteFailed}
+use Rattle.standing.specs.declared.Stand.{Stand}
+use Rattle.standing.specs.declared.Stand.the-variants.{Opening, Going, AtEnd, Closing, Done, ReadFailed, WriteFailed}
 use Rattle.reporting.specs.Run.{Step, opens, tells, ends, unread, counts-left, closes, unwritten, Run, begins, goes}
 use Rattle.reporting.specs.Run.Seen.{Seen, see-none, see, seen-add-up}
 

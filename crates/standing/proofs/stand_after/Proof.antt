@@ -1,10 +1,10 @@
--- `reporting::stand_after` meets its contract: each case is its own.
+-- `standing::stand_after` meets its contract: each case is its own.
 -- Assumes nothing.
 use mathlib.Core.Path.{sym, ap}
 use borrow.Author.Needs.{needs}
-use Rattle.reporting.specs.Run.{standOf}
-use Rattle.reporting.proofs.stand_after.Statement.{statement}
-use Rattle.reporting.proofs.stand_after.Tie as tie
+use Rattle.standing.specs.Standing.{standOf}
+use Rattle.standing.proofs.stand_after.Statement.{statement}
+use Rattle.standing.proofs.stand_after.Tie as tie
 
 enum-told : tie.Need-enum-told
 enum-told c = search needs

@@ -1,10 +1,10 @@
--- `reporting::saying::after_line` meets its contract: one way out for each answer.
+-- `standing::after_line` meets its contract: one way out for each answer.
 -- Assumes nothing.
 use mathlib.Core.Path.{sym, ap}
 use mathlib.Core.Bool.{Bool}
-use Rattle.reporting.specs.Run.{afterLine}
-use Rattle.reporting.proofs.saying.after_line.Statement.{statement}
-use Rattle.reporting.proofs.saying.after_line.Tie as tie
+use Rattle.standing.specs.Standing.{afterLine}
+use Rattle.standing.proofs.after_line.Statement.{statement}
+use Rattle.standing.proofs.after_line.Tie as tie
 
 returns : tie.Need-returns
 returns c = sym (ap (λ (w : Bool). afterLine w (c .before .args .counts) (c .before .args .next)) (c .if1 .taken))

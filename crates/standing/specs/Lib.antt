@@ -1,0 +1,2 @@
+-- document 01, the report
+pub mod Standing
