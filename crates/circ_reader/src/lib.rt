@@ -96,7 +96,7 @@ fn stage_with_marks(lens: &[u8], store: &mut [u8], from: usize, half: usize, wor
 {
     let rows = lens.len();
     lines::stage(lens, store, from, half, &mut word[..rows]);
-    lines::stage(lens, store, from + half, half, &mut word[rows..]);
+    lines::stage_of_marks(lens, store, from + half, half, &mut word[rows..]);
 }
 
 impl CircReader {

@@ -59,6 +59,16 @@ pub fn delay(lens: &[u8], line: &mut [u8], word: &mut [u8])
     shift(&mut line[..at], carry);
 }
 
+// The same where the lines stand in `count` bytes of a longer store, from one place on, or in as many as it has there.
+pub fn stage(lens: &[u8], store: &mut [u8], from: usize, count: usize, word: &mut [u8])
+    ensures { λ _. ⌜ (now (word .exit) ≡ rowsOut (now (lens .entry)) (part from count (now (store .entry))) (now (word .entry)))
+        × (now (store .exit) ≡ staged (now (lens .entry)) from count (now (store .entry)) (now (word .entry))) ⌝ }
+{
+    let start = smaller(from, store.len());
+    let end = start + smaller(count, store.len() - start);
+    delay(lens, &mut store[start..end], word);
+}
+
 // Whether all are 0.
 fn quiet(s: &[u8]) -> bool
     ensures { λ r. ⌜ r ≡ eqb (anyOf 0 (now (s .entry))) 0 ⌝ }
@@ -72,9 +82,8 @@ fn quiet(s: &[u8]) -> bool
     any == 0
 }
 
-// The same where the lines stand in `count` bytes of a longer store, from one place on, or in as many as it has there. Where nothing but zeros waits and comes
-// in, as with marks, a look is enough.
-pub fn stage(lens: &[u8], store: &mut [u8], from: usize, count: usize, word: &mut [u8])
+// The same for marks, of which nearly all are zeros: where nothing else waits and comes in, a look is enough.
+pub fn stage_of_marks(lens: &[u8], store: &mut [u8], from: usize, count: usize, word: &mut [u8])
     ensures { λ _. ⌜ (now (word .exit) ≡ rowsOut (now (lens .entry)) (part from count (now (store .entry))) (now (word .entry)))
         × (now (store .exit) ≡ staged (now (lens .entry)) from count (now (store .entry)) (now (word .entry))) ⌝ }
 {
@@ -85,5 +94,5 @@ pub fn stage(lens: &[u8], store: &mut [u8], from: usize, count: usize, word: &mu
             return;
         }
     }
-    delay(lens, &mut store[start..end], word);
+    stage(lens, store, from, count, word);
 }

@@ -20,20 +20,20 @@ slice-aggregate-stage c =
 stage-requires : tie.Need-stage-requires
 stage-requires c κs = search needs
 
-add-stage : tie.Need-add-stage
-add-stage c = search needs
+add-stage-of-marks : tie.Need-add-stage-of-marks
+add-stage-of-marks c = search needs
 
-sub-stage : tie.Need-sub-stage
-sub-stage c = search needs
+sub-stage-of-marks : tie.Need-sub-stage-of-marks
+sub-stage-of-marks c = search needs
 
-part-stage-start : tie.Need-part-stage-start
-part-stage-start c = search needs
+part-stage-of-marks-start : tie.Need-part-stage-of-marks-start
+part-stage-of-marks-start c = search needs
 
-part-stage-end : tie.Need-part-stage-end
-part-stage-end c = search needs
+part-stage-of-marks-end : tie.Need-part-stage-of-marks-end
+part-stage-of-marks-end c = search needs
 
-stage-requires-2 : tie.Need-stage-requires-2
-stage-requires-2 c κs = search needs
+stage-of-marks-requires : tie.Need-stage-of-marks-requires
+stage-of-marks-requires c κs = search needs
 
 same-length : tie.Need-same-length
 same-length c = search needs
@@ -46,12 +46,12 @@ returns c =
     let second = c .before .before .before .before in
     let first = second .before .before .before .before .before .before .before in
     let start = first .before .before .before .before .before .before in (
-      both-out (start .pre) (first .stage .last .1 .0) (second .stage2 .last .1 .0) (first .stage .last .1 .1 .1 .1 .0) (second .stage2 .last .1 .1 .1 .1 .0)
+      both-out (start .pre) (first .stage .last .1 .0) (second .stage-of-marks .last .1 .0) (first .stage .last .1 .1 .1 .1 .0) (second .stage-of-marks .last .1 .1 .1 .1 .0)
           (first .stage .ensures)
-          (second .stage2 .ensures),
-      both-next (start .pre) (first .stage .last .1 .0) (second .stage2 .last .1 .0) (first .stage .last .1 .1 .1 .1 .0) (second .stage2 .last .1 .1 .1 .1 .0)
+          (second .stage-of-marks .ensures),
+      both-next (start .pre) (first .stage .last .1 .0) (second .stage-of-marks .last .1 .0) (first .stage .last .1 .1 .1 .1 .0) (second .stage-of-marks .last .1 .1 .1 .1 .0)
           (first .stage .ensures)
-          (second .stage2 .ensures),
+          (second .stage-of-marks .ensures),
     )
 
 pub stage-with-marks-spec : {M : Type 1} → statement M
@@ -61,11 +61,11 @@ stage-with-marks-spec =
     slice-relend-prefix-stage
     slice-aggregate-stage
     stage-requires
-    add-stage
-    sub-stage
-    part-stage-start
-    part-stage-end
-    stage-requires-2
+    add-stage-of-marks
+    sub-stage-of-marks
+    part-stage-of-marks-start
+    part-stage-of-marks-end
+    stage-of-marks-requires
     same-length
     same-length-2
     returns)

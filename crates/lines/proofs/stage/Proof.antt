@@ -1,8 +1,6 @@
--- `lines::stage` meets its contract: what `delay` does to the part of the store that is lent to it (`stage-clamped`); or nothing, where nothing but zeros waits
--- and comes in (`quiet-stage`).
+-- `lines::stage` meets its contract: what `delay` does to the part of the store that is lent to it (`stage-clamped`).
 -- Assumes nothing.
-use Rattle.lines.proofs.Clamped.{part-clamped, stage-clamped}
-use Rattle.lines.proofs.Looked.{quiet-stage}
+use Rattle.lines.proofs.Clamped.{stage-clamped}
 use borrow.Author.Needs.{needs}
 use Rattle.lines.proofs.stage.Statement.{statement}
 use Rattle.lines.proofs.stage.Tie as tie
@@ -19,43 +17,6 @@ smaller-requires-2 c κs = search needs
 add-end : tie.Need-add-end
 add-end c = search needs
 
-quiet-requires : tie.Need-quiet-requires
-quiet-requires c κs = search needs
-
-sub-quiet : tie.Need-sub-quiet
-sub-quiet c = search needs
-
-part-quiet-start : tie.Need-part-quiet-start
-part-quiet-start c = search needs
-
-part-quiet-end : tie.Need-part-quiet-end
-part-quiet-end c = search needs
-
-quiet-requires-2 : tie.Need-quiet-requires-2
-quiet-requires-2 c κs = search needs
-
-same-length : tie.Need-same-length
-same-length c = search needs
-
-same-length-2 : tie.Need-same-length-2
-same-length-2 c = search needs
-
-returns : tie.Need-returns
-returns c =
-    let looked = c .before in
-    let word = looked .before .before .before .before in
-    let more = word .before .before in
-    let start = more .before in
-    let entry = start .before .before .before .before in
-    quiet-stage (entry .args .lens .now) (entry .args .store .now) (entry .args .word .now) _ (entry .args .from) (entry .args .count)
-    (part-clamped (entry .args .store .now) (entry .args .from) (entry .args .count) (start .smaller .result) (more .smaller2 .result) (start .smaller .ensures) (more .smaller2 .ensures))
-    (word .quiet .result)
-    (looked .quiet2 .result)
-    (word .quiet .ensures)
-    (looked .before .before .before .if1 .taken)
-    (looked .quiet2 .ensures)
-    (c .if2 .taken)
-
 sub-delay : tie.Need-sub-delay
 sub-delay c = search needs
 
@@ -68,16 +29,16 @@ part-delay-end c = search needs
 delay-requires : tie.Need-delay-requires
 delay-requires c κs = search needs
 
-same-length-3 : tie.Need-same-length-3
-same-length-3 c = search needs
+same-length : tie.Need-same-length
+same-length c = search needs
 
-same-length-4 : tie.Need-same-length-4
-same-length-4 c = search needs
+same-length-2 : tie.Need-same-length-2
+same-length-2 c = search needs
 
-returns-2 : tie.Need-returns-2
-returns-2 c =
+returns : tie.Need-returns
+returns c =
     let delay = c .before .before .before .before in
-    let more = delay .before .before .before .before .before .before in
+    let more = delay .before .before .before in
     let start = more .before in
     let entry = start .before .before .before .before in
     stage-clamped (entry .args .store .now) (entry .args .from) (entry .args .count) (start .smaller .result) (more .smaller2 .result) (start .smaller .ensures) (more .smaller2 .ensures)
@@ -96,18 +57,10 @@ stage-spec =
     sub-smaller
     smaller-requires-2
     add-end
-    quiet-requires
-    sub-quiet
-    part-quiet-start
-    part-quiet-end
-    quiet-requires-2
-    same-length
-    same-length-2
-    returns
     sub-delay
     part-delay-start
     part-delay-end
     delay-requires
-    same-length-3
-    same-length-4
-    returns-2)
+    same-length
+    same-length-2
+    returns)
