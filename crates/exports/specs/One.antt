@@ -37,9 +37,9 @@ module _ {x y : ℕ} {v w : List ℕ} where
   repaired-one received old s t = told-one (λ a b p q. repair-one received old p q)
 
   -- the Sector and the list of changes
-  pub salvaged-once : (received : List ℕ) (passes : ℕ) (old changed s t l m : List ℕ) → Told 2 (λ say. Salvages received passes old changed say s l) x v
+  pub salvaged-one : (received : List ℕ) (passes : ℕ) (old changed s t l m : List ℕ) → Told 2 (λ say. Salvages received passes old changed say s l) x v
       → Told 2 (λ say. Salvages received passes old changed say t m) y w → (x ≡ y) × (v ≡ w) × ((s ≡ t) × (l ≡ m))
-  salvaged-once received passes old changed s t l m =
+  salvaged-one received passes old changed s t l m =
       told-one (λ a b p q. let e = salvages-one received passes old changed p q in (e .says, (e .sector, e .list)))
 
   -- writing a Section, with the state after it

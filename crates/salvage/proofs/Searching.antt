@@ -17,7 +17,7 @@ use Rattle.trial.specs.Tried.{Tried}
 use Rattle.trial.specs.Tried.One.{tried-one}
 use Rattle.salvaging.specs.Turns.{turn, After, unpassed, passed}
 use Rattle.salvaging.specs.Turns.One.{after-one, after-long}
-use Rattle.salvaging.specs.Salvage.{Yields, Salvaged, NoneFound}
+use Rattle.salvaging.specs.Salvage.{Yields, ResultOf, NoneFound}
 use Rattle.salvage.specs.Inner.Search.{Tries}
 
 pub record Searching (r : List ℕ) (k : ℕ) (s t : List ℕ) : Type 0 where
@@ -61,7 +61,7 @@ module _ {r s t : List ℕ} {k : ℕ} (g : Searching r k s t) (u v w : List ℕ)
           let q : j ≡ k + 1 = omega arith in
           try .decides .wrong e (yielded x (subst (λ (n : ℕ). Yields r n x) q y))
 
-  pub searching-found : b ≡ true → (allowed : ℕ) → k < allowed → Salvaged r allowed (k + 1) w
+  pub searching-found : b ≡ true → (allowed : ℕ) → k < allowed → ResultOf r allowed (k + 1) w
   searching-found e allowed h =
       record {
         one = omega arith;

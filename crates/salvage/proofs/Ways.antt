@@ -13,7 +13,7 @@ use Rattle.outcome.specs.Say.{Say, done, refused, cleared}
 use Rattle.outcome.specs.Say.Refusals.{cleared-right, cleared-wrong}
 use Rattle.codeword.specs.Code.{changes}
 use Rattle.listing.specs.Listed.{listing, fitting, Lists}
-use Rattle.salvaging.specs.Salvage.{Salvaged, InRange, Room, Salvages, wrong-incoming, wrong-outgoing, wrong-passes, none-found, handed-out}
+use Rattle.salvaging.specs.Salvage.{ResultOf, InRange, Room, Salvages, wrong-incoming, wrong-outgoing, wrong-passes, none-found, handed-out}
 use Rattle.salvage.specs.declared.Found.{Found}
 use Rattle.salvage.specs.declared.Found.the-variants.{After, Nothing}
 use Rattle.salvage.specs.Inner.Search.{Searched, Works, nothing, something}
@@ -36,7 +36,7 @@ module _ (r s t : List ℕ) (allowed : ℕ) (f : Found) (copy : s ≡ r) (found 
       (subst (λ (x : List ℕ). Works r allowed old changed (done (k ∷ n ∷ [])) t x) (sym is-list)
       (subst (λ (x : ℕ). Works r allowed old changed (done (k ∷ x ∷ [])) t (listing r t)) (sym is-count) (something result)))
     where
-      result : Salvaged r allowed k t
+      result : ResultOf r allowed k t
       result = found-for (After k) e
 
       sector : length t ≡ 2352

@@ -24,7 +24,7 @@ pub record Yields (r : List ℕ) (k : ℕ) (s : List ℕ) : Type 0 where
   pub correct : CorrectMode01 s
 
 -- the result for r where `allowed` passes may be made: the first trial that is correct, and after how many passes
-pub record Salvaged (r : List ℕ) (allowed k : ℕ) (s : List ℕ) : Type 0 where
+pub record ResultOf (r : List ℕ) (allowed k : ℕ) (s : List ℕ) : Type 0 where
   pub one : 1 ≤ k
   pub within : k ≤ allowed
   pub found : Yields r k s
@@ -53,5 +53,5 @@ pub data Salvages (r : List ℕ) (allowed : ℕ) (old changed : List ℕ) : Say 
       → Salvages r allowed old changed (refused 22 []) (cleared 2352 old) (cleared 9408 changed)
   none-found : length r ≡ 2352 → Room old changed → InRange allowed → NoneFound r allowed
       → Salvages r allowed old changed (refused 5 []) (cleared 2352 old) (cleared 9408 changed)
-  handed-out : {k : ℕ} {s : List ℕ} → length r ≡ 2352 → Room old changed → InRange allowed → Salvaged r allowed k s
+  handed-out : {k : ℕ} {s : List ℕ} → length r ≡ 2352 → Room old changed → InRange allowed → ResultOf r allowed k s
       → Salvages r allowed old changed (done (k ∷ changes r s ∷ [])) s (listing r s)

@@ -69,7 +69,3 @@ made-gives (x ∷ a) (y ∷ b) e = go (eqb x y) refl (made-gives a b (omega arit
         → made (cond t (listed 1 a b) (record { at = 0; was = x; is = y } ∷ listed 1 a b)) (x ∷ a) ≡ y ∷ b
     go true p q = made-later 0 a b x a ∙ ap₂ _∷_ (eqb-true x y p) q
     go false p q = made-later 0 a b y a ∙ ap (λ (t : List ℕ). y ∷ t) q
-
--- so the changes that the bytes tell, made in what was received, give the Sector
-pub list-makes : (r s : List ℕ) → length r ≡ length s → made (readBack (changes r s) (listing r s)) r ≡ s
-list-makes r s e = ap (λ (l : List Change). made l r) (reads-back r s) ∙ made-gives r s e

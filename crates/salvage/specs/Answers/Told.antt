@@ -29,7 +29,7 @@ says-one : (a b : Salvaged) → sayOf a ≡ sayOf b → a ≡ b
 says-one a b e = sym (told a) ∙ ap answer e ∙ told b
 
 -- two outcomes that the promise of `salvage` allows coincide: the answer with its numbers, the Sector and the list
-pub salvaged-once : (r : List ℕ) (allowed : ℕ) (old changed : List ℕ) (a b : Salvaged) {s t l m : List ℕ} → Salvages r allowed old changed (sayOf a) s l
+pub salvaged-one : (r : List ℕ) (allowed : ℕ) (old changed : List ℕ) (a b : Salvaged) {s t l m : List ℕ} → Salvages r allowed old changed (sayOf a) s l
     → Salvages r allowed old changed (sayOf b) t m → (a ≡ b) × (s ≡ t) × (l ≡ m)
-salvaged-once r allowed old changed a b p q =
+salvaged-one r allowed old changed a b p q =
     let e = salvages-one r allowed old changed p q in (says-one a b (e .says), e .sector, e .list)

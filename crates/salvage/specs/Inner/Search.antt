@@ -9,7 +9,7 @@ use Rattle.codeword.specs.Code.{changes}
 use Rattle.sector.specs.Correct.{CorrectMode01}
 use Rattle.trial.specs.Tried.{Tried}
 use Rattle.listing.specs.Listed.{listing}
-use Rattle.salvaging.specs.Salvage.{Salvaged, NoneFound}
+use Rattle.salvaging.specs.Salvage.{ResultOf, NoneFound}
 use Rattle.salvage.specs.declared.Found.{Found}
 use Rattle.salvage.specs.declared.Found.the-variants as found
 
@@ -25,10 +25,10 @@ pub record Tries (s : List ℕ) (r : Bool) (t : List ℕ) : Type 0 where
 
 -- what was found for what came in, and the Sector t then
 abbrev pub Searched : List ℕ → ℕ → Found → List ℕ → Type 0
-Searched r allowed (found.After k) t = Salvaged r allowed k t
+Searched r allowed (found.After k) t = ResultOf r allowed k t
 Searched r allowed found.Nothing t = NoneFound r allowed
 
 -- what comes of the search, with the buffers: nothing is found and they stay, or the Sector and its list are in them
 pub data Works (r : List ℕ) (allowed : ℕ) (old changed : List ℕ) : Say → List ℕ → List ℕ → Type 0 where
   nothing : NoneFound r allowed → Works r allowed old changed (refused 5 []) old changed
-  something : {k : ℕ} {s : List ℕ} → Salvaged r allowed k s → Works r allowed old changed (done (k ∷ changes r s ∷ [])) s (listing r s)
+  something : {k : ℕ} {s : List ℕ} → ResultOf r allowed k s → Works r allowed old changed (done (k ∷ changes r s ∷ [])) s (listing r s)

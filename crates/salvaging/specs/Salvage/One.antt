@@ -12,7 +12,7 @@ use Rattle.trial.specs.Tried.{Tried}
 use Rattle.trial.specs.Tried.One.{tried-one}
 use Rattle.listing.specs.Listed.{listing}
 use Rattle.salvaging.specs.Turns.One.{after-one}
-use Rattle.salvaging.specs.Salvage.{Yields, Salvaged, NoneFound, Salvages, wrong-incoming, wrong-outgoing, wrong-passes, none-found, handed-out}
+use Rattle.salvaging.specs.Salvage.{Yields, ResultOf, NoneFound, Salvages, wrong-incoming, wrong-outgoing, wrong-passes, none-found, handed-out}
 
 module _ (r : List ℕ) where
   yields-one : (k : ℕ) (s t : List ℕ) → Yields r k s → Yields r k t → s ≡ t
@@ -20,8 +20,8 @@ module _ (r : List ℕ) where
       tried-one (p .left) s t (p .trial) (subst (λ (x : List ℕ). Tried x t) (after-one (q .after) (p .after)) (q .trial))
 
   -- whatever may be allowed there is one result, after one number of passes
-  pub salvaged-one : {a b k j : ℕ} {s t : List ℕ} → Salvaged r a k s → Salvaged r b j t → (k ≡ j) × (s ≡ t)
-  salvaged-one {a} {b} {k} {j} {s} {t} p q = go (lt-or-le k j) (lt-or-le j k)
+  pub result-one : {a b k j : ℕ} {s t : List ℕ} → ResultOf r a k s → ResultOf r b j t → (k ≡ j) × (s ≡ t)
+  result-one {a} {b} {k} {j} {s} {t} p q = go (lt-or-le k j) (lt-or-le j k)
     where
       go : (k < j) ⊎ (j ≤ k) → (j < k) ⊎ (k ≤ j) → (k ≡ j) × (s ≡ t)
       go (inl l) m = absurd (q .first k (p .one) l s (p .found))
@@ -31,7 +31,7 @@ module _ (r : List ℕ) where
           (e, yields-one j s t (subst (λ (n : ℕ). Yields r n s) e (p .found)) (q .found))
 
   -- a result and none exclude each other
-  pub found-not-none : {a k : ℕ} {s : List ℕ} → Salvaged r a k s → NoneFound r a → ⊥
+  pub found-not-none : {a k : ℕ} {s : List ℕ} → ResultOf r a k s → NoneFound r a → ⊥
   found-not-none {k = k} {s = s} p n = n k (p .one) (p .within) s (p .found)
 
 -- two outcomes are the same: what is said, the Sector and the list
@@ -71,7 +71,7 @@ module _ (r : List ℕ) (allowed : ℕ) (old changed : List ℕ) where
   salvages-one (handed-out e p h g) (wrong-passes f q o) = absurd (o h)
   salvages-one (handed-out e p h g) (none-found f q i o) = absurd (found-not-none r g o)
   salvages-one (handed-out {k = k} {s = s} e p h g) (handed-out {k = j} {s = t} f q i o) =
-      let both = salvaged-one r g o in
+      let both = result-one r g o in
       record {
         says = ap₂ (λ (n : ℕ) (x : List ℕ). done (n ∷ changes r x ∷ [])) (both .0) (both .1);
         sector = both .1;
