@@ -66,14 +66,17 @@ same-length-2 c = search needs
 
 returns-2 : tie.Need-returns-2
 returns-2 c =
-    let call = c .before .before .before .before .before .before .before .before .before .before .before .before .before .before .before in
+    let listed = c .before .before in
+    let handed = listed .before .before .before .before .before in
+    let some = handed .before .before .before .before in
+    let call = some .before .before .before .before in
     let copy = call .before .before .before .before .before in
     let blank = copy .before .before in
     let start = blank .before .before .before .before in
     worked-some (start .args .received .now) (copy .copy .last .1 .0) (call .search .last .1 .0) (start .args .passes) (call .search .result)
     (copied _ (blank .blank .result) (copy .copy .last .1 .0) (copy .copy .result) (start .pre .0 ∙ sym (ap length (blank .blank .ensures) ∙ length-zeros 2352)) (copy .copy .ensures))
-    (call .search .ensures) _ (c .before .before .list-changes .result) (c .before .before .before .before .before .before .before .copy2 .result) (c .before .before .before .before .before .before .before .before .before .before .before .found .given .1) (start .pre .0) (start .pre .1)
-    (c .before .before .before .before .before .before .before .copy2 .ensures) (c .before .before .list-changes .ensures)
+    (call .search .ensures) _ (listed .list-changes .result) (handed .copy2 .result) (some .found .given .1) (start .pre .0) (start .pre .1)
+    (handed .copy2 .ensures) (listed .list-changes .ensures)
 
 pub work-spec : {M : Type 1} → statement M
 work-spec =
