@@ -15,12 +15,13 @@ pub enum Refusal {
     WrongP { codeword: usize },
     WrongQ { codeword: usize },
     WrongFiller,
+    WrongPasses,
 }
 
 use Refusal::*;
 
 impl Refusal {
-    /// The number in the table of document 01.
+    /// The number in the table of document 01, or of a request in document 02.
     pub fn number(self) -> u8 {
         match self {
             WrongIncoming => 1,
@@ -36,6 +37,7 @@ impl Refusal {
             WrongP { .. } => 13,
             WrongQ { .. } => 14,
             WrongFiller => 15,
+            WrongPasses => 22,
         }
     }
 
@@ -84,9 +86,10 @@ mod tests {
             WrongP { codeword: 85 },
             WrongQ { codeword: 51 },
             WrongFiller,
+            WrongPasses,
         ];
         let numbers: Vec<u8> = all.iter().map(|r| r.number()).collect();
-        assert_eq!(numbers, [1, 2, 3, 4, 5, 7, 9, 10, 11, 12, 13, 14, 15]);
+        assert_eq!(numbers, [1, 2, 3, 4, 5, 7, 9, 10, 11, 12, 13, 14, 15, 22]);
         let values: Vec<usize> = all.iter().filter_map(|r| r.value()).collect();
         assert_eq!(values, [85, 51]);
     }

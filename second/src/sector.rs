@@ -1,11 +1,13 @@
-//! ECMA-130, clause 14 and Annex A; document 01, A Sector, P and Q; document 02, 13: layout, writing and judging.
+//! ECMA-130, clause 14 and Annex A; document 01, A Sector, P and Q; document 02, 10 and 13: layout, writing, judging and what is tried of some bytes.
 
 mod repair;
+mod salvage;
 
 use crate::codeword::{fill, is_codeword};
 use crate::edc;
 use crate::refusal::{clear, Refusal, Refusal::*};
 pub use repair::{repair, repair_many};
+pub use salvage::{salvage, Salvaged, LIST};
 
 pub const LENGTH: usize = 2352;
 pub const SYNC: [u8; 12] = [0, 255, 255, 255, 255, 255, 255, 255, 255, 255, 255, 0];
@@ -79,6 +81,15 @@ fn seal(sector: &mut [u8]) {
     sector[2068..2076].fill(0);
     (0..P_CODEWORDS).for_each(|n| set_parity(sector, &p_positions(n)));
     (0..Q_CODEWORDS).for_each(|n| set_parity(sector, &q_positions(n)));
+}
+
+/// The bytes with sync set and Q parity worked out afresh, where that is a correct Sector of Mode 01.
+fn tried(bytes: &[u8]) -> Option<Vec<u8>> {
+    let mut sector = bytes.to_vec();
+    sector[..12].copy_from_slice(&SYNC);
+    (0..Q_CODEWORDS).for_each(|n| set_parity(&mut sector, &q_positions(n)));
+    let correct = matches!(judge(&sector), Ok(Passed { mode: 1, .. }));
+    correct.then_some(sector)
 }
 
 /// Refusals 2, 3, 1, 4.

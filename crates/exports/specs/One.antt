@@ -11,6 +11,8 @@ use Rattle.writer.specs.Write.{Writes}
 use Rattle.writer.specs.Write.One.{write-one}
 use Rattle.repair.specs.Repair.{Repairs}
 use Rattle.repair.specs.Repair.One.{repair-one}
+use Rattle.salvaging.specs.Salvage.{Salvages}
+use Rattle.salvaging.specs.Salvage.One.{salvages-one}
 use Rattle.section_reader.specs.ReadSay.{ReadOut, readOut}
 use Rattle.told.specs.Told.{Told}
 use Rattle.told.specs.Told.One.{told-one}
@@ -33,6 +35,12 @@ module _ {x y : ℕ} {v w : List ℕ} where
   pub repaired-one : (received old s t : List ℕ) → Told 1 (λ say. Repairs received old say s) x v → Told 1 (λ say. Repairs received old say t) y w
       → (x ≡ y) × (v ≡ w) × (s ≡ t)
   repaired-one received old s t = told-one (λ a b p q. repair-one received old p q)
+
+  -- the Sector and the list of changes
+  pub salvaged-one : (received : List ℕ) (passes : ℕ) (old changed s t l m : List ℕ) → Told 2 (λ say. Salvages received passes old changed say s l) x v
+      → Told 2 (λ say. Salvages received passes old changed say t m) y w → (x ≡ y) × (v ≡ w) × ((s ≡ t) × (l ≡ m))
+  salvaged-one received passes old changed s t l m =
+      told-one (λ a b p q. let e = salvages-one received passes old changed p q in (e .says, (e .sector, e .list)))
 
   -- writing a Section, with the state after it
   pub step-one : {S : Type 0} (o : Step S) (m n : S) (s t : List ℕ) → Told 0 (λ say. step say m s ≡ o) x v → Told 0 (λ say. step say n t ≡ o) y w

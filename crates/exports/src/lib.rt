@@ -9,4 +9,5 @@ mod remainders;
 mod repairing;
 mod section_reading;
 mod section_writing;
+mod sector_salvage;
 mod writing;

@@ -1,3 +1,2 @@
--- the codewords of both parities, and the search for the first that fails
-pub mod Codewords
+-- the search for the first codeword that fails
 pub mod Search

@@ -1,4 +1,2 @@
--- the codewords of either parity, and whether one fails
+-- whether a codeword of either parity fails
 pub mod Failing
--- contracts of private functions
-pub mod Inner

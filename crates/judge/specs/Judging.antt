@@ -12,9 +12,10 @@ use Rattle.edc.specs.Edc.{remainder, isZero}
 use Rattle.address.specs.Address.{inRange}
 use Rattle.sector.specs.Layout.{sync, bytesFrom, timeOf, modeOf, zeros}
 use Rattle.lists.specs.Same.{same}
-use Rattle.failing.specs.Failing.{wordsOf, failing}
-use Rattle.failing.specs.declared.Parity.{Parity}
-use Rattle.failing.specs.declared.Parity.the-variants.{P, Q}
+use Rattle.rspc.specs.Either.{wordsOf}
+use Rattle.failing.specs.Failing.{failing}
+use Rattle.rspc.specs.declared.Parity.{Parity}
+use Rattle.rspc.specs.declared.Parity.the-variants.{P, Q}
 use Rattle.address.specs.declared.HeaderTime.{HeaderTime}
 use Rattle.judge.specs.declared.Judged.{Judged}
 use Rattle.judge.specs.declared.Judged.the-variants.{Passed, WrongIncoming, WrongSync, UnknownMode, WrongAddress, WrongEdc, WrongIntermediate, WrongP, WrongQ, WrongFiller}

@@ -4,7 +4,7 @@ ghost use lib.ListN.{length};
 ghost use Rattle.sector.specs.Layout.{timeOf};
 ghost use Rattle.judge.specs.Judging.{judgingMode01, judgingMode00, byMode, judging, sayOf};
 use address::HeaderTime;
-use failing::Parity;
+use rspc::Parity;
 
 pub enum Judged {
     Passed(u8, HeaderTime),

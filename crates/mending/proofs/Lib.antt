@@ -1,4 +1,5 @@
--- the P words as columns, a word mended, and the pass over all of them
-pub mod PRows
+-- the codewords as columns, a codeword mended, and the pass over all of them
+pub mod Rows
 pub mod Mending
 pub mod Passing
+pub mod AllPassed

@@ -1,8 +1,9 @@
--- A P codeword mended in place: what its fault does to it and to the other words.
+-- A codeword mended in place: what its fault does to it and to the other codewords of its parity.
 -- Assumes nothing.
 use mathlib.Core.Path.{_≡_, refl, sym, ap, _∙_}
+use mathlib.Core.Bool.{Bool}
 use mathlib.Core.List.{List, [], _∷_}
-use Prim.Native.Nat.{ℕ, _/_, _%_, _<_}
+use Prim.Native.Nat.{ℕ, _<_}
 use native.Mathlib.Decide.{ℕ-discrete}
 use native.Mathlib.Omega.{arith}
 use lib.ListN.{length, getD, set, length-set}
@@ -10,64 +11,61 @@ use lib.Seq.{ext-getD, getD-set-same, getD-set-other}
 use Rattle.codeword.specs.Code.{sum, sums}
 use Rattle.codeword.specs.Nearest.{nearest, mended}
 use Rattle.codeword.specs.Fault.{fault, cure}
-use Rattle.codeword.specs.Fault.Decides.{nearest-by-sums}
+use Rattle.codeword.specs.Fault.Decides.{nearest-by-sums, fault-inside}
 use Rattle.codeword.specs.declared.Fault.{Fault}
 use Rattle.codeword.specs.declared.Fault.the-variants.{Clean, At, Lost}
-use Rattle.rspc.specs.Words.{pNumber, pWords, pPlace, pWord}
-use Rattle.rspc.specs.Words.P.{length-p, p-at}
-use Rattle.mending.specs.Inner.Mend.{explained}
+use Rattle.rspc.specs.declared.Parity.{Parity}
+use Rattle.rspc.specs.Either.{wordsOf, rowsOf, wordOf, placeOf}
+use Rattle.rspc.specs.Either.Where.{homeOf, rowIn, place-to, home-of, row-in}
+use Rattle.rspc.specs.Either.Bytewise.{end-le, word-long, word-at}
 use Rattle.rspc.specs.Pass.{foundOr, isFound, handedOn}
+use Rattle.mending.specs.Inner.Mend.{explained, mendedAt}
 
 -- ---- one byte of one word set
 
-module _ (s : List ℕ) (n i v : ℕ) (long : length s ≡ 2352) (hn : n < pWords) (hi : i < 26) where
-  pub set-word : pWord (set s (pPlace n i) v) n ≡ set (pWord s n) i v
+module _ (parity : Parity) (s : List ℕ) (n i v : ℕ) (long : length s ≡ 2352) (hn : n < wordsOf parity) (hi : i < rowsOf parity) where
+  pub set-word : wordOf parity (set s (placeOf parity n i) v) n ≡ set (wordOf parity s n) i v
   set-word =
-      ext-getD 0 (pWord (set s (pPlace n i) v) n) (set (pWord s n) i v)
-      (length-p (set s (pPlace n i) v) n ∙ sym (length-p s n) ∙ sym (length-set (pWord s n) i v))
-      (λ r l. at r (omega (arith, length-p (set s (pPlace n i) v) n)) (ℕ-discrete r i))
+      ext-getD 0 (wordOf parity (set s (placeOf parity n i) v) n) (set (wordOf parity s n) i v)
+      (word-long parity (set s (placeOf parity n i) v) n ∙ sym (word-long parity s n) ∙ sym (length-set (wordOf parity s n) i v))
+      (λ r l. at r (omega (arith, word-long parity (set s (placeOf parity n i) v) n)) (ℕ-discrete r i))
     where
-      at : (r : ℕ) → r < 26 → Dec (r ≡ i) → getD (pWord (set s (pPlace n i) v) n) r 0 ≡ getD (set (pWord s n) i v) r 0
+      at : (r : ℕ) → r < rowsOf parity → Dec (r ≡ i)
+          → getD (wordOf parity (set s (placeOf parity n i) v) n) r 0 ≡ getD (set (wordOf parity s n) i v) r 0
       at r l (yes e) =
-          p-at (set s (pPlace n i) v) n r l ∙ ap (λ (k : ℕ). getD (set s (pPlace n i) v) (pPlace n k) 0) e
-          ∙ getD-set-same s (pPlace n i) v 0 (omega arith)
-          ∙ sym (getD-set-same (pWord s n) i v 0 (omega (arith, length-p s n))) ∙ ap (λ (k : ℕ). getD (set (pWord s n) i v) k 0) (sym e)
+          word-at parity (set s (placeOf parity n i) v) n r l ∙ ap (λ (k : ℕ). getD (set s (placeOf parity n i) v) (placeOf parity n k) 0) e
+          ∙ getD-set-same s (placeOf parity n i) v 0 (omega (arith, place-to parity n i hn hi, end-le parity))
+          ∙ sym (getD-set-same (wordOf parity s n) i v 0 (omega (arith, word-long parity s n)))
+          ∙ ap (λ (k : ℕ). getD (set (wordOf parity s n) i v) k 0) (sym e)
       at r l (no d) =
-          p-at (set s (pPlace n i) v) n r l
-          ∙ getD-set-other s (pPlace n i) (pPlace n r) v 0 (λ e. d (omega arith))
-          ∙ sym (p-at s n r l) ∙ sym (getD-set-other (pWord s n) i r v 0 d)
+          word-at parity (set s (placeOf parity n i) v) n r l
+          ∙ getD-set-other s (placeOf parity n i) (placeOf parity n r) v 0
+          (λ e. d (sym (row-in parity n r hn l) ∙ ap (rowIn parity) e ∙ row-in parity n i hn hi))
+          ∙ sym (word-at parity s n r l) ∙ sym (getD-set-other (wordOf parity s n) i r v 0 d)
 
-  other-place : (m r : ℕ) → m < pWords → (m ≡ n → ⊥) → pPlace m r ≡ pPlace n i → ⊥
-  other-place m r hm d e =
-      let a : pPlace m r % 2 ≡ m / 43 = omega arith in
-      let b : pPlace n i % 2 ≡ n / 43 = omega arith in
-      let half : m / 43 ≡ n / 43 = sym a ∙ ap (λ (k : ℕ). k % 2) e ∙ b in
-      let f : pNumber (m % 43) r % 43 ≡ m % 43 = omega arith in
-      let g : pNumber (n % 43) i % 43 ≡ n % 43 = omega arith in
-      let number : pNumber (m % 43) r ≡ pNumber (n % 43) i = omega arith in
-      let column : m % 43 ≡ n % 43 = sym f ∙ ap (λ (k : ℕ). k % 43) number ∙ g in
-      d (omega arith)
-
-  pub set-other : (m : ℕ) → m < pWords → (m ≡ n → ⊥) → pWord (set s (pPlace n i) v) m ≡ pWord s m
+  pub set-other : (m : ℕ) → m < wordsOf parity → (m ≡ n → ⊥) → wordOf parity (set s (placeOf parity n i) v) m ≡ wordOf parity s m
   set-other m hm d =
-      ext-getD 0 (pWord (set s (pPlace n i) v) m) (pWord s m) (length-p (set s (pPlace n i) v) m ∙ sym (length-p s m))
+      ext-getD 0 (wordOf parity (set s (placeOf parity n i) v) m) (wordOf parity s m)
+      (word-long parity (set s (placeOf parity n i) v) m ∙ sym (word-long parity s m))
       (λ r l.
-      let k : r < 26 = omega (arith, length-p (set s (pPlace n i) v) m) in
-      p-at (set s (pPlace n i) v) m r k
-      ∙ getD-set-other s (pPlace n i) (pPlace m r) v 0 (other-place m r hm d) ∙ sym (p-at s m r k))
+      let k : r < rowsOf parity = omega (arith, word-long parity (set s (placeOf parity n i) v) m) in
+      word-at parity (set s (placeOf parity n i) v) m r k
+      ∙ getD-set-other s (placeOf parity n i) (placeOf parity m r) v 0
+      (λ e. d (sym (home-of parity m r hm k) ∙ ap (homeOf parity) e ∙ home-of parity n i hn hi)) ∙ sym (word-at parity s m r k))
 
 -- ---- a fault
 
--- the fault of a P codeword, by its sums
-abbrev pub pFault : List ℕ → ℕ → Fault
-pFault s n = fault (sum 0 (pWord s n) ∷ sum 1 (pWord s n) ∷ []) 26
+-- the fault of a codeword, by its sums
+abbrev pub faultOf : Parity → List ℕ → ℕ → Fault
+faultOf parity s n = fault (sum 0 (wordOf parity s n) ∷ sum 1 (wordOf parity s n) ∷ []) (rowsOf parity)
 
-pub found-by-fault : (s : List ℕ) (n : ℕ) → isFound (nearest 2 (pWord s n)) ≡ explained (pFault s n)
-found-by-fault s n =
-    ap isFound (nearest-by-sums 2 (pWord s n) (omega arith)) ∙ ap (λ (k : ℕ). isFound (mended (pWord s n) (cure (pWord s n) (fault (sums 2 (pWord s n)) k)))) (length-p s n)
-    ∙ go (pFault s n)
+pub found-by-fault : (parity : Parity) (s : List ℕ) (n : ℕ) → isFound (nearest 2 (wordOf parity s n)) ≡ explained (faultOf parity s n)
+found-by-fault parity s n =
+    ap isFound (nearest-by-sums 2 (wordOf parity s n) (omega arith))
+    ∙ ap (λ (k : ℕ). isFound (mended (wordOf parity s n) (cure (wordOf parity s n) (fault (sums 2 (wordOf parity s n)) k)))) (word-long parity s n)
+    ∙ go (faultOf parity s n)
   where
-    go : (f : Fault) → isFound (mended (pWord s n) (cure (pWord s n) f)) ≡ explained f
+    go : (f : Fault) → isFound (mended (wordOf parity s n) (cure (wordOf parity s n) f)) ≡ explained f
     go Clean = refl
     go (At i e) = refl
     go Lost = refl
@@ -76,7 +74,21 @@ found-by-fault s n =
 abbrev pub cured : List ℕ → Fault → List ℕ
 cured w f = foundOr w (mended w (cure w f))
 
-pub handed-by-fault : (s : List ℕ) (n : ℕ) → handedOn (pWord s n) ≡ cured (pWord s n) (pFault s n)
-handed-by-fault s n =
-    ap (foundOr (pWord s n)) (nearest-by-sums 2 (pWord s n) (omega arith))
-    ∙ ap (λ (k : ℕ). cured (pWord s n) (fault (sums 2 (pWord s n)) k)) (length-p s n)
+pub handed-by-fault : (parity : Parity) (s : List ℕ) (n : ℕ) → handedOn (wordOf parity s n) ≡ cured (wordOf parity s n) (faultOf parity s n)
+handed-by-fault parity s n =
+    ap (foundOr (wordOf parity s n)) (nearest-by-sums 2 (wordOf parity s n) (omega arith))
+    ∙ ap (λ (k : ℕ). cured (wordOf parity s n) (fault (sums 2 (wordOf parity s n)) k)) (word-long parity s n)
+
+-- ---- what is done with a fault
+
+module _ (parity : Parity) (x y : ℕ) {rows : ℕ} {f : Fault} (is-rows : rows ≡ rowsOf parity) (is : f ≡ fault (x ∷ y ∷ []) rows) where
+  -- its place is inside the codeword
+  pub fault-row : (i e : ℕ) → f ≡ At i e → i < rowsOf parity
+  fault-row i e q = fault-inside (x ∷ y ∷ []) (rowsOf parity) i e (ap (fault (x ∷ y ∷ [])) (sym is-rows) ∙ sym is ∙ q)
+
+  -- each way out of `mend` is one of its cases
+  pub mends : (s : List ℕ) (n : ℕ) (g : Fault) {r : Bool} {t : List ℕ} → f ≡ g → r ≡ explained g → t ≡ mendedAt parity s n g
+      → (r ≡ explained (fault (x ∷ y ∷ []) (rowsOf parity))) × (t ≡ mendedAt parity s n (fault (x ∷ y ∷ []) (rowsOf parity)))
+  mends s n g q p t =
+      let e : g ≡ fault (x ∷ y ∷ []) (rowsOf parity) = sym q ∙ is ∙ ap (fault (x ∷ y ∷ [])) is-rows in
+      (p ∙ ap explained e, t ∙ ap (mendedAt parity s n) e)

@@ -1,4 +1,3 @@
--- sums that become parity, the gathered Q words, and parity laid into a Sector
+-- sums that become parity, and parity laid into a Sector
 pub mod Parting
-pub mod Gathering
 pub mod Putting

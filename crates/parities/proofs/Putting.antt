@@ -1,7 +1,7 @@
 -- Two rows of parity laid into a Sector make codewords of its P words, and of its Q words.
 -- Assumes nothing.
 use mathlib.Core.Path.{_≡_, refl, sym, ap, ap₂, _∙_, subst}
-use mathlib.Core.Bool.{true, false}
+use mathlib.Core.Bool.{Bool, true, false}
 use mathlib.Core.List.{List, [], _∷_, _++_}
 use Prim.Native.Nat.{ℕ, suc, _+_, _-_, _*_, _/_, _%_, _<_, min}
 use native.Mathlib.Omega.{arith}
@@ -11,15 +11,15 @@ use Rattle.lists.specs.Laid.{Laid}
 use Rattle.lists.specs.Agree.{same-take, same-drop}
 use Rattle.codeword.specs.Code.{Codeword}
 use Rattle.sweep.specs.Columns.Sums.{length-column, column-at}
-use Rattle.rspc.specs.Words.{place, pPlace, qPlace, pWord, qWord, PCodewords, QCodewords}
+use Rattle.rspc.specs.Words.{pPlace, qPlace, pWord, qWord, PCodewords, QCodewords}
 use Rattle.rspc.specs.Words.P.{length-p, p-at}
 use Rattle.rspc.specs.Words.Q.{length-q, q-at, q-data, q-parity}
 use Rattle.rspc.specs.Columns.{pColumn, qColumn}
 use Rattle.rspc.specs.Place.One.{of-sector, of-other}
 use Rattle.rspc.specs.Put.{PPut, QPut, PutP, PutQ}
 use Rattle.parities.specs.Inner.ParityRows.{wholeColumn, ParityRows}
-use Rattle.parities.specs.Inner.Gather.{qByte, qRows}
-use Rattle.parities.proofs.Gathering.{length-rows, rows-at}
+use Rattle.gathering.specs.Rows.{qRows, Gathered}
+use Rattle.gathering.specs.Rows.Columns.{length-rows, front-at, gathered}
 
 -- a word is a front and two bytes more
 two-behind : (w front : List ℕ) (x y : ℕ) → length w ≡ length front + 2 → ((r : ℕ) → r < length front → getD w r 0 ≡ getD front r 0)
@@ -97,17 +97,6 @@ p-putting s p q t e c b = of-sector e (refl, p-put s p q t e c b)
 
 -- ---- Q
 
--- byte m of Q codeword n before its parity
-front-at : (s : List ℕ) (n m : ℕ) → n < 52 → m < 43 → getD (qRows s) (52 * m + qColumn n) 0 ≡ getD s (qPlace n m) 0
-front-at s n m h l =
-    let row : (52 * m + qColumn n) / 52 ≡ m = omega arith in
-    let col : (52 * m + qColumn n) % 52 ≡ qColumn n = omega arith in
-    let half : qColumn n % 2 ≡ n / 26 = omega arith in
-    let d : qColumn n / 2 ≡ n % 26 = omega arith in
-    rows-at s (52 * m + qColumn n) (omega arith) ∙ ap₂ (qByte s) row col
-    ∙ ap₂ (λ (a b : ℕ). getD s (place a ((44 * m + 43 * b) % 1118)) 0) half d
-    ∙ ap (λ (a : ℕ). getD s (place (n / 26) a) 0) (sym (q-data (n % 26) m l))
-
 q-put : (s p q t : List ℕ) → length s ≡ 2352 → ParityRows 52 (qRows s) p q → Laid 2248 (p ++ q) s t → QPut s t
 q-put s p q t e c b = record { long = b .long; before = same-take 2248 t s (b .long) (b .before); words = word }
   where
@@ -128,5 +117,6 @@ q-put s p q t e c b = record { long = b .long; before = same-take 2248 t s (b .l
 pub q-other : (s : List ℕ) → (length s ≡ 2352 → ⊥) → PutQ s false s
 q-other s n = of-other n
 
-pub q-putting : (s rows p q t : List ℕ) → length s ≡ 2352 → rows ≡ qRows s → ParityRows 52 rows p q → Laid 2248 (p ++ q) s t → PutQ s true t
-q-putting s rows p q t e g c b = of-sector e (refl, q-put s p q t e (subst (λ (l : List ℕ). ParityRows 52 l p q) g c) b)
+pub q-putting : (s old rows p q t : List ℕ) (r : Bool) → length s ≡ 2352 → length old ≡ 2236 → Gathered s old r rows → ParityRows 52 rows p q
+    → Laid 2248 (p ++ q) s t → PutQ s true t
+q-putting s old rows p q t r e f g c b = of-sector e (refl, q-put s p q t e (subst (λ (l : List ℕ). ParityRows 52 l p q) (gathered e f g) c) b)

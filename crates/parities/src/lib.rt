@@ -2,10 +2,9 @@
 // the rows.
 ghost use mathlib.Core.Path.{_≡_};
 ghost use mathlib.Core.List.{_++_};
-ghost use Prim.Native.Nat.{_+_, _%_, _<_, _≤_};
+ghost use Prim.Native.Nat.{_+_, _<_, _≤_};
 ghost use lib.ListN.{length};
 ghost use Rattle.lists.specs.Laid.{Laid};
-ghost use Rattle.parities.specs.Inner.Gather.{qRow, qRows};
 ghost use Rattle.parities.specs.Inner.ParityRows.{ParityRows};
 ghost use Rattle.rspc.specs.Put.{PutP, PutQ};
 use codeword::parity_from_sums;
@@ -52,49 +51,6 @@ pub fn put_p(s: &mut [u8]) -> bool
     true
 }
 
-// The words of P and Q before the Q parity.
-const WORDS: usize = 1118;
-
-// The word 43 further on, with the first after the last.
-fn next_word(word: usize) -> usize
-    requires { ⌜ word < 1118 ⌝ }
-    ensures { λ r. ⌜ r ≡ (word + 43) % 1118 ⌝ }
-{
-    let next = word + 43;
-    if next < WORDS {
-        return next;
-    }
-    next - WORDS
-}
-
-// Row m: codeword d begins with word 43d, and from there byte m is 44m words further on.
-fn gather_row(s: &[u8], m: usize, row: &mut [u8])
-    requires { ⌜ (length (now s) ≡ 2352) × (m < 43) × (length (now row) ≡ 52) ⌝ }
-    ensures { λ _. ⌜ now (row .exit) ≡ qRow (now (s .entry)) m ⌝ }
-{
-    let mut word = 44 * m % WORDS;
-    let mut d: usize = 0;
-    while d < 26 {
-        row[2 * d] = s[2 * word + 12];
-        row[2 * d + 1] = s[2 * word + 13];
-        word = next_word(word);
-        d += 1;
-    }
-}
-
-// All 43 rows.
-fn gather(s: &[u8], rows: &mut [u8])
-    requires { ⌜ (length (now s) ≡ 2352) × (length (now rows) ≡ 2236) ⌝ }
-    ensures { λ _. ⌜ now (rows .exit) ≡ qRows (now (s .entry)) ⌝ }
-{
-    let mut m: usize = 0;
-    while m < 43 {
-        let at = 52 * m;
-        gather_row(s, m, &mut rows[at..at + 52]);
-        m += 1;
-    }
-}
-
 // The Q parity, bytes 2,248 to 2,351, is put right and the answer is true. Where there are not 2,352 bytes nothing changes and the
 // answer is false.
 pub fn put_q(s: &mut [u8]) -> bool
@@ -104,7 +60,7 @@ pub fn put_q(s: &mut [u8]) -> bool
         return false;
     }
     let mut rows = [0u8; 2236];
-    gather(s, &mut rows);
+    gathering::gather(s, &mut rows);
     let mut p0 = [0u8; 52];
     let mut p1 = [0u8; 52];
     parity_rows(&rows, &mut p0, &mut p1);

@@ -14,7 +14,9 @@ use Rattle.edc.specs.Bits.{bits}
 use Rattle.edc.specs.Edc.{remainder, isZero}
 use Rattle.edc.specs.Edc.Zero.{test-divisible, divisible-test}
 use Rattle.rspc.specs.Words.{pWord}
-use Rattle.rspc.specs.Words.P.{length-p, p-covers}
+use Rattle.rspc.specs.declared.Parity.the-variants.{P}
+use Rattle.rspc.specs.Words.P.{length-p}
+use Rattle.rspc.specs.Either.Bytewise.{covers}
 use Rattle.rspc.specs.Words.Parity.{q-one}
 use Rattle.address.specs.Address.{inRange}
 use Rattle.sector.specs.Layout.{bytesFrom, timeOf, modeOf, zeros}
@@ -80,7 +82,7 @@ pub sought-candidate : (r s t : List ℕ) → Candidate r s → Sought r t → t
 sought-candidate r s t c g =
     let h = g .correct .correct .head in
     let covered =
-    p-covers t s
+    covers P t s
     (λ n l. near-one 2 (pWord r n) (pWord t n) (pWord s n) (omega arith) (omega (arith, length-p r n)) (sought-near r t g n l) (c .p n l)) in
     whole t s (h .long) (c .long) (h .synced ∙ sym (c .synced)) covered
     (q-one t s (h .bytes) (c .bytes) covered (g .correct .correct .mode01 (g .correct .mode) .q) (c .q))

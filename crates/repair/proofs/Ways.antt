@@ -9,11 +9,10 @@ use lib.Dec.{eqb}
 use lib.ListN.{length, replicate}
 use Rattle.outcome.specs.Say.{Say, done, refused, cleared}
 use Rattle.outcome.specs.Say.Refusals.{cleared-right, cleared-wrong}
-use Rattle.outcome.specs.Bytes.{Bytes}
 use Rattle.outcome.specs.Buffer.Lengths.{same-lengths}
 use Rattle.codeword.specs.Code.{changes}
 use Rattle.repair.specs.Repair.{Sought, Repairs, wrong-incoming, wrong-outgoing, none-near, handed-out}
-use Rattle.repair.specs.Inner.Candidate.{rules, Candidate, FoundFor, HandsOut}
+use Rattle.repair.specs.Inner.Candidate.{rules, FoundFor, HandsOut}
 use Rattle.repair.proofs.Candidates.{candidate-sought, candidate-alone}
 
 module _ (r old new : List ℕ) where
@@ -27,17 +26,14 @@ module _ (r old new : List ℕ) where
   on-outgoing l n z = leaves 2 (z ∙ sym (cleared-wrong 2352 old n)) (wrong-outgoing l n)
 
   module _ (lr : length r ≡ 2352) (lo : length old ≡ 2352) (near : Bool) (s : List ℕ) (f : FoundFor r near s) where
-    module _ (right : Bool) (g : (right ≡ rules s) × Bytes s) where
-      the-candidate : near ≡ true → Candidate r s
-      the-candidate e = f .candidate e (g .1)
-
+    module _ (right : Bool) (g : right ≡ rules s) where
       pub on-none : not (near && right) ≡ true → new ≡ replicate (length old) 0 → Repairs r old (refused 5 []) new
       on-none n z =
           leaves 5 (z ∙ ap (λ (k : ℕ). replicate k 0) lo ∙ sym (cleared-right 2352 old lo))
           (none-near lr lo (by near refl (not-true (near && right) n)))
         where
           by : (b : Bool) → near ≡ b → b && right ≡ false → (t : List ℕ) → Sought r t → ⊥
-          by true e n = candidate-alone r s (the-candidate e) (sym (g .0) ∙ n)
+          by true e n = candidate-alone r s (f .candidate e) (sym g ∙ n)
           by false e n = f .nothing e
 
       pub on-found : not (near && right) ≡ false → (a : Say) → HandsOut r s a new → Repairs r old a new
@@ -47,7 +43,7 @@ module _ (r old new : List ℕ) where
           by true q m =
               subst (λ (x : List ℕ). Repairs r old a x) (sym (h .gives))
               (subst (λ (x : Say). Repairs r old x s) (sym (h .says))
-              (handed-out lr lo (candidate-sought r s (the-candidate q) (sym (g .0) ∙ m))))
+              (handed-out lr lo (candidate-sought r s (f .candidate q) (sym g ∙ m))))
           by false q m = absurd (false≢true m)
 
 pub ruleset ways = (on-incoming, on-outgoing, on-none, on-found)

@@ -1,7 +1,6 @@
 // Repair of a Sector (document 01, demand 3).
 ghost use mathlib.Core.Path.{_≡_};
 ghost use lib.ListN.{length};
-ghost use Rattle.outcome.specs.Bytes.{Bytes};
 ghost use Rattle.repair.specs.Repair.{Repairs, sayOf};
 ghost use Rattle.repair.specs.Inner.Candidate.{rules, FoundFor, HandsOut};
 use address::HeaderTime;
@@ -14,11 +13,10 @@ pub enum Repaired {
     NoSectorNear,
 }
 
-// Whether the rules of Mode 01 hold that no parity settles: mode, address, EDC and Intermediate field. A slice also shows that
-// what it holds are bytes, which an array of one's own does not.
+// Whether the rules of Mode 01 hold that no parity settles: mode, address, EDC and Intermediate field.
 fn rules_right(s: &[u8]) -> bool
     requires { ⌜ length (now s) ≡ 2352 ⌝ }
-    ensures { λ r. ⌜ (r ≡ rules (now (s .entry))) × Bytes (now (s .entry)) ⌝ }
+    ensures { λ r. ⌜ r ≡ rules (now (s .entry)) ⌝ }
 {
     if s[15] != 1 {
         return false;
@@ -47,9 +45,7 @@ fn candidate(received: &[u8]) -> Found
     let mut s = sector::blank();
     outcome::copy(received, &mut s);
     let near = mending::p_pass(&mut s);
-    let sync = sector::sync_field();
-    outcome::copy(&sync, &mut s[..12]);
-    parities::put_q(&mut s);
+    trial::freshen(&mut s);
     Found { near, sector: s }
 }
 

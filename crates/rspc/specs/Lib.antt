@@ -1,6 +1,7 @@
 -- the codewords of Annex A
 pub mod Words
--- what is done to a Sector in place: parity put in, and P words mended
+pub mod Either
+-- what is done to a Sector in place: parity put in, and words mended
 pub mod Place
 pub mod Put
 pub mod Pass

@@ -1,4 +1,4 @@
--- A pass over the P codewords of a Sector (Annex A): each that has a codeword near becomes that one, the others stay.
+-- A pass over the codewords of one parity of a Sector (Annex A): each that has a codeword near becomes that one, the others stay.
 -- Assumes nothing.
 use mathlib.Core.Path.{_≡_}
 use mathlib.Core.Bool.{Bool, true, false}
@@ -8,9 +8,11 @@ use Prim.Native.Nat.{ℕ, _<_}
 use lib.ListN.{length, take, drop}
 use Rattle.outcome.specs.Table.{allBelow}
 use Rattle.codeword.specs.Nearest.{nearest}
-use Rattle.rspc.specs.Words.{pWords, pWord}
+use Rattle.rspc.specs.declared.Parity.{Parity}
+use Rattle.rspc.specs.Either.{wordsOf, wordOf, endOf}
 use Rattle.rspc.specs.Place.{InPlace}
 pub mod One
+pub mod Exists
 
 -- the codeword that was found, or the word w as it came
 abbrev pub foundOr : List ℕ → Option (List ℕ) → List ℕ
@@ -25,17 +27,17 @@ isFound (some c) = true
 abbrev pub handedOn : List ℕ → List ℕ
 handedOn w = foundOr w (nearest 2 w)
 
--- each P codeword of a Sector has a codeword near
-unfoldable pub pNear : List ℕ → Bool
-pNear s = allBelow (λ n. isFound (nearest 2 (pWord s n))) pWords
+-- each codeword of a Sector has a codeword near
+unfoldable pub eachNear : Parity → List ℕ → Bool
+eachNear parity s = allBelow (λ n. isFound (nearest 2 (wordOf parity s n))) (wordsOf parity)
 
--- t is the Sector s after the pass
-pub record PPassed (s t : List ℕ) : Type 0 where
+-- t is the Sector s after the pass: only bytes that the codewords run over change
+pub record Passed (parity : Parity) (s t : List ℕ) : Type 0 where
   pub long : length t ≡ length s
   pub before : take 12 t ≡ take 12 s
-  pub after : drop 2248 t ≡ drop 2248 s
-  pub words : (n : ℕ) → n < pWords → pWord t n ≡ handedOn (pWord s n)
+  pub after : drop (endOf parity) t ≡ drop (endOf parity) s
+  pub words : (n : ℕ) → n < wordsOf parity → wordOf parity t n ≡ handedOn (wordOf parity s n)
 
 -- the pass in place, with whether each word had a codeword near
-abbrev pub PPass : List ℕ → Bool → List ℕ → Type 0
-PPass = InPlace (λ s r t. (r ≡ pNear s) × PPassed s t)
+abbrev pub Pass : Parity → List ℕ → Bool → List ℕ → Type 0
+Pass parity = InPlace (λ s r t. (r ≡ eachNear parity s) × Passed parity s t)

@@ -32,6 +32,16 @@ extern "C" {
         numbers: *mut [u64; BATCH],
         changed: *mut [u64; BATCH],
     ) -> u8;
+    fn road_salvage(
+        received: *const u8,
+        length: usize,
+        passes: u8,
+        out: *mut u8,
+        out_length: usize,
+        changes: *mut u8,
+        changes_length: usize,
+        values: *mut [u64; 2],
+    ) -> u8;
     fn road_scramble(sector: *const u8, length: usize, out: *mut u8, out_length: usize) -> u8;
     fn road_cut(scrambled: *const u8, length: usize, out: *mut u8, out_length: usize) -> u8;
     fn road_join(frames: *const u8, length: usize, out: *mut u8, out_length: usize) -> u8;
@@ -81,6 +91,15 @@ pub fn told_batch(answer: Result<Vec<Result<usize, Refusal>>, Refusal>) -> Batch
         *place = told_of(fate, |count| vec![count]);
     }
     Batch { answer: told_of(answer, |sectors| vec![sectors.len()]), fates }
+}
+
+pub fn salvage(received: &[u8], passes: u8, out: &mut [u8], list: &mut [u8]) -> Told<2> {
+    let (received, length) = (received.as_ptr(), received.len());
+    let (out, out_length) = (out.as_mut_ptr(), out.len());
+    let (list, list_length) = (list.as_mut_ptr(), list.len());
+    told(|values| unsafe {
+        road_salvage(received, length, passes, out, out_length, list, list_length, values)
+    })
 }
 
 pub fn scramble(sector: &[u8], out: &mut [u8]) -> u8 {

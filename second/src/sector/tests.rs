@@ -3,6 +3,7 @@
 mod judging;
 mod layout;
 mod repairing;
+mod salvaging;
 mod writing;
 
 use super::*;

@@ -3,6 +3,7 @@
 mod batches;
 mod damaged;
 mod refusals;
+mod salvage;
 
 use second::codeword::fill;
 use second::random::Random;

@@ -8,9 +8,9 @@ use borrow.Author.Count.{below-more}
 use borrow.Author.Needs.{needs}
 use lib.ListN.{getD}
 use Rattle.outcome.specs.Bytes.{Bytes}
-use Rattle.failing.specs.Failing.{wordsOf, wordOf, failing}
-use Rattle.failing.specs.Inner.Places.{rowsOf}
-use Rattle.failing.proofs.Codewords.{words-le, rows-le, word-long, word-bytes, word-at}
+use Rattle.rspc.specs.Either.{wordsOf, rowsOf, wordOf}
+use Rattle.rspc.specs.Either.Bytewise.{words-le, rows-le, word-long, word-bytes, word-at}
+use Rattle.failing.specs.Failing.{failing}
 use Rattle.failing.proofs.Search.{Summing, summing-none, summing-more, passes, fails-first, fails-second, NoneBelow, ends-at, ends-past}
 use Rattle.failing.proofs.first_failing.Statement.{statement}
 use Rattle.failing.proofs.first_failing.Tie as tie
@@ -49,17 +49,22 @@ loop-holds c = (omega arith, λ k h. absurd (omega arith))
 loop2-holds : tie.Need-loop2-holds Inv-loop2 μ-loop2 Inv-loop μ-loop Inv-search μ-search
 loop2-holds c = (omega arith, summing-none _)
 
+-- the numbers of codeword and byte are bytes
+cast-place-of : tie.Need-cast-place-of Inv-loop2 μ-loop2 Inv-loop μ-loop Inv-search μ-search
+cast-place-of c =
+    let outer = c .before .before .before in
+    let words = outer .before .before .before .words-of .ensures in
+    omega (arith, words-le (outer .before .before .before .before .before .args .parity))
+
+cast-place-of-2 : tie.Need-cast-place-of-2 Inv-loop2 μ-loop2 Inv-loop μ-loop Inv-search μ-search
+cast-place-of-2 c =
+    let outer = c .before .before .before in
+    let rows = outer .before .before .rows-of .ensures in
+    omega (arith, rows-le (outer .before .before .before .before .before .args .parity))
+
 place-of-requires :
     tie.Need-place-of-requires Inv-loop2 μ-loop2 Inv-loop μ-loop Inv-search μ-search
-place-of-requires c κs =
-    let inner = c .before in
-    let outer = inner .before .before in
-    let parity = outer .before .before .before .before .before .args .parity in
-    let s = outer .before .before .before .before .before .args .s .now in
-    let n = outer .loop .n in
-    let rows = outer .before .before .rows-of .ensures in
-    let words = outer .before .before .before .words-of .ensures in
-    (omega (arith, words-le parity), omega (arith, rows-le parity))
+place-of-requires c κs = tt
 
 byte-at-requires : tie.Need-byte-at-requires Inv-loop2 μ-loop2 Inv-loop μ-loop Inv-search μ-search
 byte-at-requires c κs = search needs
@@ -158,6 +163,8 @@ first-failing-spec =
     search-holds
     loop-holds
     loop2-holds
+    cast-place-of
+    cast-place-of-2
     place-of-requires
     byte-at-requires
     times-alpha-requires

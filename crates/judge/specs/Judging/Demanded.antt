@@ -14,8 +14,9 @@ use Rattle.outcome.specs.First.Found.{first-below}
 use Rattle.codeword.specs.Code.{Codeword}
 use Rattle.codeword.specs.Nearest.{isCodeword}
 use Rattle.codeword.specs.Code.NearOne.{code-of-test, test-of-code}
-use Rattle.failing.specs.declared.Parity.{Parity}
-use Rattle.failing.specs.Failing.{wordsOf, failing}
+use Rattle.rspc.specs.declared.Parity.{Parity}
+use Rattle.rspc.specs.Either.{wordsOf}
+use Rattle.failing.specs.Failing.{failing}
 use Rattle.judge.specs.Judging.{demandEach}
 
 -- a demand that is passed was met

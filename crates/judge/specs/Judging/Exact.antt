@@ -19,7 +19,7 @@ use Rattle.sector.specs.Layout.{sync, bytesFrom, timeOf, modeOf, zeros}
 use Rattle.sector.specs.Correct.{Empty, Protected, Correct}
 use Rattle.lists.specs.Same.{same}
 use Rattle.lists.specs.Same.Equal.{same-equal, equal-same}
-use Rattle.failing.specs.declared.Parity.the-variants.{P, Q}
+use Rattle.rspc.specs.declared.Parity.the-variants.{P, Q}
 use Rattle.judge.specs.Judging.{passing, judgingMode01, judgingMode00, byMode, judging}
 use Rattle.judge.specs.Judging.Demanded.{demanded, demanded-each, met-each, code-of, of-code}
 

@@ -1,9 +1,10 @@
--- `mending::p_pass` meets its contract: what the sweep over the rows makes are the sums that mending asks for.
+-- `mending::p_pass` meets its contract: what the sweep over the rows makes are the sums that mending asks for (`p-rows`).
 -- Assumes nothing.
 use mathlib.Core.Path.{refl}
 use native.Mathlib.Omega.{arith}
-use Rattle.sweep.specs.Columns.Fit.{swept-0, swept-1}
+use Rattle.rspc.specs.declared.Parity.the-variants.{P}
 use Rattle.rspc.specs.Place.One.{of-sector, of-other}
+use Rattle.mending.proofs.Rows.{p-rows, swept-sums}
 use borrow.Author.Needs.{needs}
 use Rattle.mending.proofs.p_pass.Statement.{statement}
 use Rattle.mending.proofs.p_pass.Tie as tie
@@ -37,8 +38,8 @@ slice-aggregate-mend-all-2 c = search needs
 
 mend-all-requires : tie.Need-mend-all-requires
 mend-all-requires c κs =
-    let swept = c .before .before .before .before .before .sums .ensures in
-    (c .before .before .before .before .before .before .before .before .before .before .if1 .left, swept-0 swept refl (omega arith), swept-1 swept refl (omega arith))
+    let long = c .before .before .before .before .before .before .before .before .before .before .if1 .left in
+    (long, swept-sums P (p-rows _ long) refl refl (omega arith) (c .before .before .before .before .before .sums .ensures))
 
 same-length : tie.Need-same-length
 same-length c = search needs

@@ -12,7 +12,7 @@ shared-slice-read-if1 : tie.Need-shared-slice-read-if1
 shared-slice-read-if1 c = search needs
 
 returns : tie.Need-returns
-returns c = (search on-mode, λ i. c .before .before .shared-slice-known .given i .fits)
+returns c = search on-mode
 
 shared-slice-read-t4 : tie.Need-shared-slice-read-t4
 shared-slice-read-t4 c = search needs
@@ -27,7 +27,7 @@ in-range-requires : tie.Need-in-range-requires
 in-range-requires c κs = search needs
 
 returns-2 : tie.Need-returns-2
-returns-2 c = (search on-address, λ i. c .before .before .before .before .before .before .before .shared-slice-known .given i .fits)
+returns-2 c = search on-address
 
 slice-aggregate-holds : tie.Need-slice-aggregate-holds
 slice-aggregate-holds c = sym (length-take-le 2068 (c .before .before .before .before .before .before .before .before .before .args .s .now) (omega arith))
@@ -36,13 +36,13 @@ holds-requires : tie.Need-holds-requires
 holds-requires c κs = search needs
 
 returns-3 : tie.Need-returns-3
-returns-3 c = (search on-edc, λ i. c .before .before .before .before .before .before .before .before .before .before .shared-slice-known .given i .fits)
+returns-3 c = search on-edc
 
 intermediate-right-requires : tie.Need-intermediate-right-requires
 intermediate-right-requires c κs = search needs
 
 returns-4 : tie.Need-returns-4
-returns-4 c = (search on-intermediate, λ i. c .before .before .before .before .before .before .before .before .before .before .before .shared-slice-known .given i .fits)
+returns-4 c = search on-intermediate
 
 pub rules-right-spec : {M : Type 1} → statement M
 rules-right-spec =

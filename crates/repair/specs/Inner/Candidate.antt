@@ -33,7 +33,7 @@ pub record Candidate (r s : List ℕ) : Type 0 where
 
 -- what was found for r: a candidate if each P codeword has one near, and else nothing can be sought
 pub record FoundFor (r : List ℕ) (near : Bool) (s : List ℕ) : Type 0 where
-  pub candidate : near ≡ true → Bytes s → Candidate r s
+  pub candidate : near ≡ true → Candidate r s
   pub nothing : near ≡ false → (t : List ℕ) → Sought r t → ⊥
 
 -- the Sector s handed out for r: the answer has the count, and the buffer holds s

@@ -8,7 +8,9 @@ use Rattle.outcome.specs.Say.{Say, done}
 use Rattle.codeword.specs.Code.{changes, Near}
 use Rattle.codeword.specs.Code.NearOne.{near-one}
 use Rattle.rspc.specs.Words.{pWords, pWord}
-use Rattle.rspc.specs.Words.P.{length-p, bytes-p, p-covers}
+use Rattle.rspc.specs.declared.Parity.the-variants.{P}
+use Rattle.rspc.specs.Words.P.{length-p, bytes-p}
+use Rattle.rspc.specs.Either.Bytewise.{covers}
 use Rattle.sector.specs.Correct.Whole.{covered-one}
 use Rattle.repair.specs.Repair.{Sought, Repairs, wrong-incoming, wrong-outgoing, none-near, handed-out}
 
@@ -26,7 +28,7 @@ sought-near r s g n h =
 pub sought-one : (r s t : List ℕ) → Sought r s → Sought r t → s ≡ t
 sought-one r s t g h =
     covered-one s t (g .correct) (h .correct)
-    (p-covers s t
+    (covers P s t
     (λ n l. near-one 2 (pWord r n) (pWord s n) (pWord t n) (omega arith) (omega (arith, length-p r n)) (sought-near r s g n l) (sought-near r t h n l)))
 
 -- two outcomes that the promise allows coincide, the buffer included

@@ -1,4 +1,4 @@
--- The pass over the P codewords has one outcome.
+-- The pass over the codewords of a parity has one outcome.
 -- Assumes nothing.
 use mathlib.Core.Path.{_≡_, sym, _∙_}
 use mathlib.Core.Logic.{_⊎_, inl, inr}
@@ -9,23 +9,23 @@ use lib.ListN.{getD}
 use lib.Seq.{ext-getD}
 use Rattle.outcome.specs.First.Found.{lt-or-le}
 use Rattle.lists.specs.Agree.{same-front, same-back}
-use Rattle.rspc.specs.Words.{SameCovered}
-use Rattle.rspc.specs.Words.P.{p-covers}
+use Rattle.rspc.specs.declared.Parity.{Parity}
+use Rattle.rspc.specs.Either.{endOf}
+use Rattle.rspc.specs.Either.Bytewise.{covers}
 use Rattle.rspc.specs.Place.One.{in-place-one}
-use Rattle.rspc.specs.Pass.{pNear, PPassed, PPass}
+use Rattle.rspc.specs.Pass.{eachNear, Passed, Pass}
 
-passed-one : (s t u : List ℕ) → PPassed s t → PPassed s u → t ≡ u
-passed-one s t u p q = ext-getD 0 t u (p .long ∙ sym (q .long)) (λ i l. at i (lt-or-le i 12) (lt-or-le i 2248))
+-- what a pass makes of a list is one list
+pub passed-one : (parity : Parity) (s t u : List ℕ) → Passed parity s t → Passed parity s u → t ≡ u
+passed-one parity s t u p q = ext-getD 0 t u (p .long ∙ sym (q .long)) (λ i l. at i (lt-or-le i 12) (lt-or-le i (endOf parity)))
   where
-    covered : SameCovered t u
-    covered = p-covers t u (λ n h. p .words n h ∙ sym (q .words n h))
-
-    at : (i : ℕ) → (i < 12) ⊎ (12 ≤ i) → (i < 2248) ⊎ (2248 ≤ i) → getD t i 0 ≡ getD u i 0
+    at : (i : ℕ) → (i < 12) ⊎ (12 ≤ i) → (i < endOf parity) ⊎ (endOf parity ≤ i) → getD t i 0 ≡ getD u i 0
     at i (inl h) k = same-front 12 t u (p .before ∙ sym (q .before)) i h
-    at i (inr h) (inl k) = covered i h k
-    at i (inr h) (inr k) = same-back 2248 t u (p .after ∙ sym (q .after)) i k
+    at i (inr h) (inl k) = covers parity t u (λ n l. p .words n l ∙ sym (q .words n l)) i h k
+    at i (inr h) (inr k) = same-back (endOf parity) t u (p .after ∙ sym (q .after)) i k
 
 -- two outcomes of the pass coincide
-pub p-pass-one : (s : List ℕ) (a b : Bool) (t u : List ℕ) → PPass s a t → PPass s b u → (a ≡ b) × (t ≡ u)
-p-pass-one s a b t u =
-    in-place-one (λ s r t. (r ≡ pNear s) × PPassed s t) s a b t u (λ e p q. (p .0 ∙ sym (q .0), passed-one s t u (p .1) (q .1)))
+pub pass-one : (parity : Parity) (s : List ℕ) (a b : Bool) (t u : List ℕ) → Pass parity s a t → Pass parity s b u → (a ≡ b) × (t ≡ u)
+pass-one parity s a b t u =
+    in-place-one (λ s r t. (r ≡ eachNear parity s) × Passed parity s t) s a b t u
+    (λ e p q. (p .0 ∙ sym (q .0), passed-one parity s t u (p .1) (q .1)))

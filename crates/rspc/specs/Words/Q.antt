@@ -1,9 +1,9 @@
--- The Q words of a Sector: each of bytes 2,248 to 2,351 is parity of exactly one, and the rest of a word lies in bytes 12 to 2,247.
+-- The Q words of a Sector: the last two bytes of each, its parity, are from 2,248 to 2,351, and the others from 12 to 2,247.
 -- Assumes nothing.
-use mathlib.Core.Path.{_≡_, sym, ap, _∙_}
+use mathlib.Core.Path.{_≡_, sym, _∙_}
 use mathlib.Core.Logic.{_⊎_, inl, inr}
 use mathlib.Core.List.{List}
-use Prim.Native.Nat.{ℕ, _+_, _-_, _*_, _/_, _%_, _<_, _≤_}
+use Prim.Native.Nat.{ℕ, _+_, _-_, _*_, _%_, _<_, _≤_}
 use native.Mathlib.Omega.{arith}
 use borrow.Author.Tests.{lt-ltb, le-ltb}
 use lib.ListN.{length, getD}
@@ -53,30 +53,3 @@ q-same s t n h c q =
         q-at s n m l
         ∙ q (qPlace n m) (omega (arith, q-parity (n % 26) m k)) (omega (arith, q-parity (n % 26) m k))
         ∙ sym (q-at t n m l)
-
--- the Q codeword of byte 2,248 + i; its place there is 43 + i / 52
-abbrev qOf : ℕ → ℕ
-qOf i = 26 * (i % 2) + i % 52 / 2
-
-q-of-lt : (i : ℕ) → qOf i < qWords
-q-of-lt i = omega arith
-
-q-of-place : (i : ℕ) → qPlace (qOf i) (43 + i / 52) ≡ 2248 + i
-q-of-place i =
-    let a : i % 52 % 2 ≡ i % 2 = omega arith in
-    let d : qOf i / 26 ≡ i % 2 = omega arith in
-    let e : qOf i % 26 ≡ i % 52 / 2 = omega arith in
-    let p : qNumber (qOf i % 26) (43 + i / 52) ≡ 1118 + 26 * (43 + i / 52 - 43) + qOf i % 26 = q-parity (qOf i % 26) (43 + i / 52) (omega arith) in
-    omega arith
-
-q-of-at : (s : List ℕ) (i : ℕ) → i < 104 → getD (qWord s (qOf i)) (43 + i / 52) 0 ≡ getD s (2248 + i) 0
-q-of-at s i h = q-at s (qOf i) (43 + i / 52) (omega arith) ∙ ap (λ (k : ℕ). getD s k 0) (q-of-place i)
-
--- and each byte of the Q parity stands in one
-pub q-covers : (s t : List ℕ) → ((n : ℕ) → n < qWords → qWord s n ≡ qWord t n) → SameQParity s t
-q-covers s t h i l m =
-    let e : 2248 + (i - 2248) ≡ i = omega arith in
-    let j : i - 2248 < 104 = omega arith in
-    ap (λ (k : ℕ). getD s k 0) (sym e) ∙ sym (q-of-at s (i - 2248) j)
-    ∙ ap (λ (w : List ℕ). getD w (43 + (i - 2248) / 52) 0) (h (qOf (i - 2248)) (q-of-lt (i - 2248)))
-    ∙ q-of-at t (i - 2248) j ∙ ap (λ (k : ℕ). getD t k 0) e

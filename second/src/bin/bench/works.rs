@@ -4,7 +4,7 @@ use crate::{Crc, Work};
 use second::channel::*;
 use second::proved;
 use second::random::Random;
-use second::sector::{p_positions, BATCH, LENGTH, P_CODEWORDS};
+use second::sector::{p_positions, BATCH, LENGTH, LIST, P_CODEWORDS};
 use std::hint::black_box;
 
 /// The unit first, then what is held against it.
@@ -43,6 +43,12 @@ fn sectors() -> Vec<Work> {
     for n in 0..P_CODEWORDS {
         damaged[p_positions(n)[random.below(26)]] ^= random.change();
     }
+    let mut twice = clean.clone();
+    for n in 0..4 {
+        let places = p_positions(20 * n);
+        twice[places[n]] ^= random.change();
+        twice[places[n + 13]] ^= random.change();
+    }
     let mut out = vec![0; 2352];
     let write = move || {
         let answer = proved::write(1, [0x12, 0x34, 0x56], black_box(&data), black_box(&mut out));
@@ -61,11 +67,19 @@ fn sectors() -> Vec<Work> {
     };
     let each = repair(damaged, P_CODEWORDS as u64);
     let [at_once, one_by_one] = sixteen(&clean);
+    let salvage = {
+        let (mut out, mut list) = (vec![0; 2352], vec![0; LIST]);
+        move || {
+            let answer = proved::salvage(black_box(&twice), 32, &mut out, black_box(&mut list));
+            assert_eq!((answer.number, answer.values), (0, [2, 8]));
+        }
+    };
     vec![
         Work::new("write a Sector of Mode 01", Some(1.6), write),
         Work::new("judge it", None, judge),
         Work::new("repair it, clean", Some(1.6), repair(clean, 0)),
         Work::new("repair it, a wrong byte in each P codeword", Some(5.0), each),
+        Work::new("salvage it, two wrong bytes in four P codewords: two passes", None, salvage),
         at_once,
         one_by_one,
     ]

@@ -1,0 +1,2 @@
+-- the rows, filled one after the other
+pub mod Gathering

@@ -1,0 +1,1 @@
+// Salvage with both parities (document 02, §10): definitions and laws only.

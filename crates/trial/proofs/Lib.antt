@@ -1,0 +1,2 @@
+-- Sync set and Q worked out
+pub mod Steps

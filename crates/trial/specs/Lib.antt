@@ -1,0 +1,2 @@
+-- what is tried of some bytes
+pub mod Tried
