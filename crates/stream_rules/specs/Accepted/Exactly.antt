@@ -57,7 +57,8 @@ module _ (B : List ℕ) where
       let z : (p % 588 - 27) % 17 ≡ 0 = eqb-true ((p % 588 - 27) % 17) 0 (b .1) in
       (omega arith, omega arith)
 
-  word-clean : (n p : ℕ) → p < 57624 * n + 24 → ((f i : ℕ) → f < 98 * n → i < 33 → rightWord (f % 98) i (wordRead B f i) ≡ true) → wordOffends B p ≡ false
+  -- where the words of n frames are right none offends
+  pub word-clean : (n p : ℕ) → p < 588 * n + 24 → ((f i : ℕ) → f < n → i < 33 → rightWord (f % 98) i (wordRead B f i) ≡ true) → wordOffends B p ≡ false
   unfolding wordOffends
   word-clean n p h w = go (wordPlace p) refl
     where
@@ -77,7 +78,7 @@ module _ (bs : List ℕ) (n : ℕ) (b : Binary bs) (long : length bs ≡ 57624 *
       record {
         run = clean-if-runs bs b (k .runs-are) p;
         head = right-head (eqb (p % 588) 0) (starts header (drop p (bs ++ header))) (k .headers-are p h);
-        word = word-clean (bs ++ header) n p (omega (arith, all)) (k .words-are);
+        word = word-clean (bs ++ header) (98 * n) p (omega (arith, all)) (k .words-are);
       }
 
   clean-kept : ((p : ℕ) → p < length (bs ++ header) → NoOffence (bs ++ header) p) → Kept (bs ++ header) n

@@ -1,0 +1,2 @@
+-- what judging Sections answers
+pub mod Answers
