@@ -1,6 +1,6 @@
 // Bits of the stream that is judged.
 ghost use mathlib.Core.Path.{_≡_};
-ghost use Prim.Native.Nat.{_+_, _*_, _≤_, _<_};
+ghost use Prim.Native.Nat.{_+_, _*_, _%_, _≤_, _<_};
 ghost use lib.ListN.{length, getD};
 ghost use Rattle.section_reader.specs.Reading.{fieldAt};
 ghost use Rattle.stream_rules.specs.Offences.{judged};

@@ -1,14 +1,12 @@
 // The search bit by bit: a window of 35 bits goes over the stream, eleven before a bit and 24 from it on.
 ghost use mathlib.Core.Path.{_≡_};
-ghost use mathlib.Core.Bool.{cond, not};
-ghost use Prim.Native.Nat.{_*_, _≤_, _<_};
+ghost use Prim.Native.Nat.{_*_, _≤_};
 ghost use lib.ListN.{length};
 ghost use Rattle.words.specs.Words.{words};
 ghost use Rattle.words.specs.LookUp.{Guide};
-ghost use Rattle.stream_rules.specs.Offences.{judged};
-ghost use Rattle.stream_rules.specs.Judging.{offence};
 ghost use Rattle.stream_windows.specs.Window.{runIn, headWrong, wordWrong, offenceIn};
 ghost use Rattle.stream_windows.specs.Window.Found.{Finding};
+ghost use Rattle.stream_judge.specs.Inner.{NoneBefore};
 use crate::bits;
 use crate::words_listed;
 
@@ -82,7 +80,7 @@ fn offence_in(table: &[u16; 256], guide: &[u8; 1351], p: usize, v: u64) -> u64
 
 // The first offence, where there is none before bit `start`.
 pub(crate) fn search_from(channel: &[u8], n: usize, start: usize) -> Offence
-    requires { ⌜ (length (now channel) ≡ 7203 * n) × (n ≤ 9) × (start ≤ 57624 * n) × ((q : _) → q < start → offence (judged (now channel)) q ≡ 0) ⌝ }
+    requires { ⌜ (length (now channel) ≡ 7203 * n) × (n ≤ 9) × (start ≤ 57624 * n) × NoneBefore (now channel) start ⌝ }
     ensures { λ r. ⌜ Finding (now (channel .entry)) (r .number) (r .place) ⌝ }
 {
     let table = words::all_words();

@@ -1,12 +1,12 @@
 // Which words may stand where, and a quick pass for them, frame by frame.
 ghost use mathlib.Core.Path.{_≡_};
-ghost use mathlib.Core.Bool.{true, false};
-ghost use Prim.Native.Nat.{_+_, _*_, _%_, _≤_, _<_};
+ghost use mathlib.Core.Bool.{true};
+ghost use Prim.Native.Nat.{_+_, _*_, _≤_};
 ghost use lib.ListN.{length};
 ghost use Rattle.words.specs.Words.{words};
 ghost use Rattle.words.specs.LookUp.{Guide};
-ghost use Rattle.section_reader.specs.Reading.{wordRead};
-ghost use Rattle.stream_rules.specs.Offences.{judged, listed, rightWord, wordOffends};
+ghost use Rattle.stream_rules.specs.Offences.{listed, rightWord};
+ghost use Rattle.stream_judge.specs.Inner.{WordsRight, WordsClear};
 use crate::bits;
 use words::Symbol;
 
@@ -47,7 +47,7 @@ pub(crate) fn is_right_word(
 // All words of frame f may stand where they stand.
 fn is_frame_right(channel: &[u8], table: &[u16; 256], guide: &[u8; 1351], f: usize) -> bool
     requires { ⌜ (now table ≡ words) × Guide (now guide) × (length (now channel) ≤ 64827) × (588 * f + 588 ≤ 8 * length (now channel)) ⌝ }
-    ensures { λ r. ⌜ r ≡ true → (i : _) → i < 33 → rightWord (f % 98) i (wordRead (judged (now (channel .entry))) f i) ≡ true ⌝ }
+    ensures { λ r. ⌜ (r ≡ true → WordsRight (now (channel .entry)) f 33) ⌝ }
 {
     let row = f % 98;
     let mut i: usize = 0;
@@ -65,7 +65,7 @@ fn is_frame_right(channel: &[u8], table: &[u16; 256], guide: &[u8; 1351], f: usi
 // A bit before which no word offends.
 pub(crate) fn listed_until(channel: &[u8], n: usize) -> usize
     requires { ⌜ (length (now channel) ≡ 7203 * n) × (1 ≤ n) × (n ≤ 9) ⌝ }
-    ensures { λ r. ⌜ (r ≤ 57624 * n) × ((q : _) → q < r → wordOffends (judged (now (channel .entry))) q ≡ false) ⌝ }
+    ensures { λ r. ⌜ (r ≤ 57624 * n) × WordsClear (now (channel .entry)) r ⌝ }
 {
     let table = words::all_words();
     let guide = words::guide();

@@ -1,19 +1,17 @@
+-- `calm::is_calm` meets its contract: each way out is a law of `Tests`.
+-- Assumes nothing.
+use Rattle.stream_judge.proofs.Tests.{calm-tight, calm-long, calm-rest}
 use Rattle.stream_judge.proofs.calm.is_calm.Statement.{statement}
 use Rattle.stream_judge.proofs.calm.is_calm.Tie as tie
-use Rattle.stream_judge.proofs.calm.is_calm.Reads as reads
-use Rattle.stream_judge.proofs.calm.is_calm.Lts as lts
 
--- src/calm.rt:15:9
 returns : tie.Need-returns
-returns c = ?
+returns c = calm-tight _ _ (c .if1 .taken)
 
--- src/calm.rt:22:9
 returns-2 : tie.Need-returns-2
-returns-2 c = ?
+returns-2 c = calm-long _ _ (c .before .if1 .left) (c .if2 .taken)
 
--- src/calm.rt:11:1
 returns-3 : tie.Need-returns-3
-returns-3 c = ?
+returns-3 c = calm-rest _ _ (c .before .if1 .left) (c .if2 .left)
 
 pub is-calm-spec : {M : Type 1} → statement M
 is-calm-spec = tie.close (tie.spec returns returns-2 returns-3)

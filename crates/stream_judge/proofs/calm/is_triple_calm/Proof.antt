@@ -1,41 +1,33 @@
+-- `calm::is_triple_calm` meets its contract: each way out is a law of `Tests`.
+-- Assumes nothing.
+use Rattle.stream_judge.proofs.Tests.{first-lost, first-stands, middle-lost, middle-stands, other-calm}
 use borrow.Author.Needs.{needs}
 use Rattle.stream_judge.proofs.calm.is_triple_calm.Statement.{statement}
 use Rattle.stream_judge.proofs.calm.is_triple_calm.Tie as tie
-use Rattle.stream_judge.proofs.calm.is_triple_calm.Reads as reads
-use Rattle.stream_judge.proofs.calm.is_triple_calm.Lts as lts
-use Rattle.stream_judge.proofs.calm.is_calm.Reads as is-calm-reads
 
--- src/calm.rt:35:13
 returns : tie.Need-returns
-returns c = ?
+returns c = first-lost _ _ (c .before .if1 .taken) (c .if2 .taken)
 
--- src/calm.rt:37:9
 is-calm-requires : tie.Need-is-calm-requires
 is-calm-requires c κs = search needs
 
--- src/calm.rt:37:9
 returns-2 : tie.Need-returns-2
-returns-2 c = ?
+returns-2 c = first-stands _ _ _ (c .before .before .if1 .taken) (c .before .if2 .left) (c .is-calm .ensures)
 
--- src/calm.rt:41:13
 returns-3 : tie.Need-returns-3
-returns-3 c = ?
+returns-3 c = middle-lost _ _ (c .before .before .if1 .left) (c .before .if3 .taken) (c .if4 .taken)
 
--- src/calm.rt:43:9
 is-calm-requires-2 : tie.Need-is-calm-requires-2
 is-calm-requires-2 c κs = search needs
 
--- src/calm.rt:43:9
 returns-4 : tie.Need-returns-4
-returns-4 c = ?
+returns-4 c = middle-stands _ _ _ (c .before .before .before .if1 .left) (c .before .before .if3 .taken) (c .before .if4 .left) (c .is-calm2 .ensures)
 
--- src/calm.rt:45:5
 is-calm-requires-3 : tie.Need-is-calm-requires-3
 is-calm-requires-3 c κs = search needs
 
--- src/calm.rt:30:1
 returns-5 : tie.Need-returns-5
-returns-5 c = ?
+returns-5 c = other-calm _ _ _ (c .before .before .if1 .left) (c .before .if3 .left) (c .is-calm3 .ensures)
 
 pub is-triple-calm-spec : {M : Type 1} → statement M
 is-triple-calm-spec =

@@ -1,39 +1,37 @@
+-- `search::offence_in` meets its contract: the lowest number that the three tests show (`shows-run` and so on).
+-- Assumes nothing.
+use Rattle.stream_judge.proofs.Tests.{shows-run, shows-header, shows-word, shows-none}
 use borrow.Author.Needs.{needs}
 use Rattle.stream_judge.proofs.search.offence_in.Statement.{statement}
 use Rattle.stream_judge.proofs.search.offence_in.Tie as tie
-use Rattle.stream_judge.proofs.search.offence_in.Reads as reads
-use Rattle.stream_judge.proofs.search.offence_in.Lts as lts
-use Rattle.stream_judge.proofs.search.head_wrong.Reads as head-wrong-reads
-use Rattle.stream_judge.proofs.search.run_in.Reads as run-in-reads
-use Rattle.stream_judge.proofs.search.word_wrong.Reads as word-wrong-reads
 
--- src/search.rt:68:9
 run-in-requires : tie.Need-run-in-requires
 run-in-requires c κs = search needs
 
--- src/search.rt:69:9
 head-wrong-requires : tie.Need-head-wrong-requires
 head-wrong-requires c κs = search needs
 
--- src/search.rt:70:9
 word-wrong-requires : tie.Need-word-wrong-requires
 word-wrong-requires c κs = search needs
 
--- src/search.rt:72:9
 returns : tie.Need-returns
-returns c = ?
+returns c = let a = c .before .before .before .before .args in
+    shows-run (a .p) (a .v) _ _ _ (c .before .before .before .run-in .ensures) (c .before .before .head-wrong .ensures) (c .before .word-wrong .ensures) (c .if1 .taken)
 
--- src/search.rt:75:9
 returns-2 : tie.Need-returns-2
-returns-2 c = ?
+returns-2 c = let d = c .before .before in
+    let a = d .before .before .before .args in
+    shows-header (a .p) (a .v) _ _ _ (d .before .before .run-in .ensures) (d .before .head-wrong .ensures) (d .word-wrong .ensures) (c .before .if1 .left) (c .if2 .taken)
 
--- src/search.rt:78:9
 returns-3 : tie.Need-returns-3
-returns-3 c = ?
+returns-3 c = let d = c .before .before .before in
+    let a = d .before .before .before .args in
+    shows-word (a .p) (a .v) _ _ _ (d .before .before .run-in .ensures) (d .before .head-wrong .ensures) (d .word-wrong .ensures) (c .before .before .if1 .left) (c .before .if2 .left) (c .if3 .taken)
 
--- src/search.rt:64:1
 returns-4 : tie.Need-returns-4
-returns-4 c = ?
+returns-4 c = let d = c .before .before .before in
+    let a = d .before .before .before .args in
+    shows-none (a .p) (a .v) _ _ _ (d .before .before .run-in .ensures) (d .before .head-wrong .ensures) (d .word-wrong .ensures) (c .before .before .if1 .left) (c .before .if2 .left) (c .if3 .left)
 
 pub offence-in-spec : {M : Type 1} → statement M
 offence-in-spec =

@@ -1,29 +1,26 @@
+-- `words_listed::is_listed` meets its contract: the guide finds the byte of the word (`listed-none`, `listed-some`).
+-- Assumes nothing.
+use Rattle.stream_judge.proofs.Tests.{listed-none, listed-some}
 use borrow.Author.Needs.{needs}
 use Rattle.stream_judge.proofs.words_listed.is_listed.Statement.{statement}
 use Rattle.stream_judge.proofs.words_listed.is_listed.Tie as tie
-use Rattle.stream_judge.proofs.words_listed.is_listed.Reads as reads
-use Rattle.stream_judge.proofs.words_listed.is_listed.Lts as lts
-use Rattle.words.proofs.look_up.Reads as look-up-reads
 
--- src/words_listed.rt:18:28
 look-up-requires : tie.Need-look-up-requires
 look-up-requires c κs = search needs
 
--- src/words_listed.rt:18:22
 enum-known--b : tie.Need-enum-known--b
 enum-known--b c = search needs
 
--- src/words_listed.rt:19:9
 enum-told : tie.Need-enum-told
 enum-told c = search needs
 
--- src/words_listed.rt:19:9
 returns : tie.Need-returns
-returns c = ?
+returns c = let a = c .before .before .before in
+    listed-none (a .args .guide .now) (a .args .table .now) (a .args .w) (a .pre .1) (a .pre .0) _ (c .before .before .look-up .ensures) (c .enum-told .given .1)
 
--- src/words_listed.rt:14:1
 returns-2 : tie.Need-returns-2
-returns-2 c = ?
+returns-2 c = let a = c .before .before .before .before in
+    listed-some (a .args .guide .now) (a .args .table .now) (a .args .w) (a .pre .1) (a .pre .0) _ (c .before .before .before .look-up .ensures) _ (c .before .-b .given .1)
 
 pub is-listed-spec : {M : Type 1} → statement M
 is-listed-spec = tie.close (tie.spec look-up-requires enum-known--b enum-told returns returns-2)

@@ -1,33 +1,31 @@
+-- `words_listed::is_right_word` meets its contract: each way out is a law of `Tests`.
+-- Assumes nothing.
+use Rattle.stream_judge.proofs.Tests.{right-other, right-sync0, right-sync1, right-control}
 use borrow.Author.Needs.{needs}
 use Rattle.stream_judge.proofs.words_listed.is_right_word.Statement.{statement}
 use Rattle.stream_judge.proofs.words_listed.is_right_word.Tie as tie
-use Rattle.stream_judge.proofs.words_listed.is_right_word.Reads as reads
-use Rattle.stream_judge.proofs.words_listed.is_right_word.Lts as lts
-use Rattle.stream_judge.proofs.words_listed.is_listed.Reads as is-listed-reads
 
--- src/words_listed.rt:36:9
 is-listed-requires : tie.Need-is-listed-requires
 is-listed-requires c κs = search needs
 
--- src/words_listed.rt:36:9
 returns : tie.Need-returns
-returns c = ?
+returns c = let a = c .before .before .args in
+    right-other (a .f) (a .i) (a .w) _ (c .before .if1 .taken) (c .is-listed .ensures)
 
--- src/words_listed.rt:39:9
 returns-2 : tie.Need-returns-2
-returns-2 c = ?
+returns-2 c = let a = c .before .before .args in
+    right-sync0 (a .f) (a .i) (a .w) (c .before .if1 .left) (c .if2 .taken)
 
--- src/words_listed.rt:42:9
 returns-3 : tie.Need-returns-3
-returns-3 c = ?
+returns-3 c = let a = c .before .before .before .args in
+    right-sync1 (a .f) (a .i) (a .w) (c .before .before .if1 .left) (c .before .if2 .left) (c .if3 .taken)
 
--- src/words_listed.rt:44:5
 is-listed-requires-2 : tie.Need-is-listed-requires-2
 is-listed-requires-2 c κs = search needs
 
--- src/words_listed.rt:25:1
 returns-4 : tie.Need-returns-4
-returns-4 c = ?
+returns-4 c = let a = c .before .before .before .before .args in
+    right-control (a .f) (a .i) (a .w) _ (c .before .before .before .if1 .left) (c .before .before .if2 .left) (c .before .if3 .left) (c .is-listed2 .ensures)
 
 pub is-right-word-spec : {M : Type 1} → statement M
 is-right-word-spec =
