@@ -19,10 +19,10 @@ use Rattle.stream_rules.specs.Accepted.Exactly.{word-clean}
 use Rattle.stream_rules.specs.Offences.{judged, rightWord}
 use Rattle.stream_rules.specs.Offences.Stream.{binary-judged, length-judged}
 use Rattle.stream_rules.specs.Judging.{offence, verdict, rightLength, judging}
-use Rattle.stream_windows.specs.Window.{led}
+use Rattle.stream_windows.specs.Window.{led, window}
 use Rattle.stream_windows.specs.Window.Found.{Finding, none-of-three}
 use Rattle.stream_windows.specs.Window.Lead.{binary-led, length-led}
-use Rattle.stream_windows.specs.Window.Onward.{field-grows}
+use Rattle.stream_windows.specs.Window.Onward.{field-grows, whole-window}
 use Rattle.stream_windows.specs.Calm.Until.{ClearBelow}
 use Rattle.stream_judge.specs.Inner.{WordsRight, WordsClear, NoneBefore}
 
@@ -54,6 +54,11 @@ module _ (xs : List ℕ) (p : ℕ) (room : p ≤ 8 * length xs) where
             let s = field-grows (judged xs) (binary-judged xs) (p + 5) k (omega (arith, long)) in
             sym (s ∙ (λ i. 2 * sym (g .is) i + sym e i));
       }
+
+  pub growing-done : (k v : ℕ) → Growing xs p k v → 35 ≤ k → v ≡ window (judged xs) p
+  growing-done k v g h =
+      let e : k ≡ 35 = omega (arith, g .upto) in
+      g .is ∙ ap (fieldAt (led (judged xs)) (p + 5)) e ∙ whole-window (judged xs) (binary-judged xs) p
 
 -- ---- words, frame by frame
 

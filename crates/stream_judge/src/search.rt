@@ -91,12 +91,18 @@ pub(crate) fn search_from(channel: &[u8], n: usize, start: usize) -> Offence
     while p < total {
         let k = offence_in(&table, &guide, p, v);
         if k != 0 {
-            return Offence { number: k, place: p };
+            return Offence {
+                number: k,
+                place: p,
+            };
         }
         let b = bits::bit_at(channel, p + 40);
         v = (2 * v + b) % 34359738368;
         p += 1;
     }
     let last = offence_in(&table, &guide, p, v);
-    Offence { number: last, place: p }
+    Offence {
+        number: last,
+        place: p,
+    }
 }

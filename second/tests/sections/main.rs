@@ -1,6 +1,7 @@
 //! Proved Sections against this program: both sides from one state and from buffers that held (AA), the same answer, the same
 //! state and the same bytes.
 
+mod judging;
 mod reading;
 mod writing;
 

@@ -1,54 +1,49 @@
+-- `bits::window_at` meets its contract: the invariant is that v has the first k bits of the window (`Growing`).
+-- Assumes nothing.
+use Prim.Native.Nat.{_-_}
+use native.Mathlib.Omega.{arith}
+use Rattle.stream_judge.proofs.Passes.{Growing, growing-start, growing-small, growing-more, growing-done}
 use Rattle.stream_judge.proofs.bits.window_at.Statement.{statement}
 use Rattle.stream_judge.proofs.bits.window_at.Tie as tie
-use Rattle.stream_judge.proofs.bits.window_at.Reads as reads
-use Rattle.stream_judge.proofs.bits.window_at.Lts as lts
-use Rattle.stream_judge.proofs.bits.bit_at.Reads as bit-at-reads
 
 abbrev Inv-loop : tie.InvT-loop
-Inv-loop channel p v₀ k₀ v k = ?
+Inv-loop channel p v₀ k₀ v k = Growing channel p k v
 
 abbrev μ-loop : tie.MeasureT-loop
-μ-loop channel p v₀ k₀ v k = ?
+μ-loop channel p v₀ k₀ v k = 35 - k
 
--- src/bits.rt:49:5
 loop-holds : tie.Need-loop-holds Inv-loop μ-loop
-loop-holds c = ?
+loop-holds c = let a = c .before in growing-start (a .args .channel .now) (a .args .p) (a .pre .1)
 
--- src/bits.rt:50:33
 add-bit-at : tie.Need-add-bit-at Inv-loop μ-loop
-add-bit-at c = ?
+add-bit-at c = let a = c .before .before .before in omega (arith, a .pre .0, a .pre .1)
 
--- src/bits.rt:50:33
 add-bit-at-2 : tie.Need-add-bit-at-2 Inv-loop μ-loop
-add-bit-at-2 c = ?
+add-bit-at-2 c = let a = c .before .before .before in omega (arith, a .pre .0, a .pre .1, c .loop-test .taken)
 
--- src/bits.rt:50:13
 bit-at-requires : tie.Need-bit-at-requires Inv-loop μ-loop
-bit-at-requires c κs = ?
+bit-at-requires c κs = let a = c .before .before .before in (a .pre .0, omega (arith, a .pre .1, c .loop-test .taken))
 
--- src/bits.rt:51:13
 mul-v : tie.Need-mul-v Inv-loop μ-loop
-mul-v c = ?
+mul-v c = let a = c .before .before .before .before in
+    omega (arith, growing-small (a .args .channel .now) (a .args .p) (a .pre .1) _ _ (c .before .before .loop .inv) (c .before .loop-test .taken))
 
--- src/bits.rt:51:13
 add-v : tie.Need-add-v Inv-loop μ-loop
-add-v c = ?
+add-v c = let a = c .before .before .before .before in
+    omega (arith, growing-small (a .args .channel .now) (a .args .p) (a .pre .1) _ _ (c .before .before .loop .inv) (c .before .loop-test .taken), c .bit-at .ensures .1)
 
--- src/bits.rt:52:9
 add-k : tie.Need-add-k Inv-loop μ-loop
-add-k c = ?
+add-k c = omega (arith, c .before .loop-test .taken)
 
--- src/bits.rt:49:5
 loop-less : tie.Need-loop-less Inv-loop μ-loop
-loop-less c = ?
+loop-less c = omega (arith, c .before .loop-test .taken)
 
--- src/bits.rt:49:5
 loop-again : tie.Need-loop-again Inv-loop μ-loop
-loop-again c = ?
+loop-again c = let a = c .before .before .before .before in
+    growing-more (a .args .channel .now) (a .args .p) (a .pre .1) _ _ _ (c .before .before .loop .inv) (c .before .loop-test .taken) (c .bit-at .ensures .0)
 
--- src/bits.rt:43:1
 returns : tie.Need-returns Inv-loop μ-loop
-returns c = ?
+returns c = let a = c .before .before .before in growing-done (a .args .channel .now) (a .args .p) (a .pre .1) _ _ (c .before .loop .inv) (c .loop-test .left)
 
 pub window-at-spec : {M : Type 1} → statement M
 window-at-spec =

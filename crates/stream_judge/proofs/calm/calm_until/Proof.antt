@@ -1,75 +1,72 @@
+-- `calm::calm_until` meets its contract: the invariant is that t triples are clear, with the 40 bits that the next needs (`Calming`).
+-- Assumes nothing.
+use mathlib.Core.Path.{sym, _∙_}
+use Prim.Native.Nat.{_-_, _*_}
+use native.Mathlib.Omega.{arith}
+use borrow.Author.Needs.{needs}
+use borrow.Author.Tests.{not-false}
+use Rattle.stream_windows.specs.Calm.Until.{Calming, calming-start, calming-more}
 use Rattle.stream_judge.proofs.calm.calm_until.Statement.{statement}
 use Rattle.stream_judge.proofs.calm.calm_until.Tie as tie
-use Rattle.stream_judge.proofs.calm.calm_until.Reads as reads
-use Rattle.stream_judge.proofs.calm.calm_until.Lts as lts
-use Rattle.stream_judge.proofs.bits.triple.Reads as triple-reads
-use Rattle.stream_judge.proofs.calm.is_triple_calm.Reads as is-triple-calm-reads
 
 abbrev Inv-loop : tie.InvT-loop
-Inv-loop channel n held₀ t₀ held t = ?
+Inv-loop channel n held₀ t₀ held t = Calming channel n t held
 
 abbrev μ-loop : tie.MeasureT-loop
-μ-loop channel n held₀ t₀ held t = ?
+μ-loop channel n held₀ t₀ held t = 2401 * n - t
 
--- src/calm.rt:53:9
 triple-requires : tie.Need-triple-requires Inv-loop μ-loop
-triple-requires c κs = ?
+triple-requires c κs = let a = c .before in (omega (arith, a .pre .0, a .pre .2), omega arith, omega (arith, a .pre .0))
 
--- src/calm.rt:55:5
 loop-holds : tie.Need-loop-holds Inv-loop μ-loop
-loop-holds c = ?
+loop-holds c = let a = c .before .before in calming-start (a .args .channel .now) (a .args .n) (a .pre .0) _ (c .triple .ensures .0)
 
--- src/calm.rt:55:15
 mul-loop : tie.Need-mul-loop Inv-loop μ-loop
-mul-loop c = ?
+mul-loop c = let a = c .before .before .before in omega (arith, a .pre .2)
 
--- src/calm.rt:56:42
 add-triple : tie.Need-add-triple Inv-loop μ-loop
-add-triple c = ?
+add-triple c = let a = c .before .before .before .before in omega (arith, a .pre .2, c .loop-test .taken)
 
--- src/calm.rt:56:13
 triple-requires-2 : tie.Need-triple-requires-2 Inv-loop μ-loop
-triple-requires-2 c κs = ?
+triple-requires-2 c κs = let a = c .before .before .before .before in (omega (arith, a .pre .0, a .pre .2), omega (arith, a .pre .0, c .loop-test .taken), omega (arith, a .pre .0))
 
--- src/calm.rt:57:17
 mul-w : tie.Need-mul-w Inv-loop μ-loop
-mul-w c = ?
+mul-w c = omega (arith, c .before .before .loop .inv .small)
 
--- src/calm.rt:57:17
 add-w : tie.Need-add-w Inv-loop μ-loop
-add-w c = ?
+add-w c = omega (arith, c .before .before .loop .inv .small, c .triple2 .ensures .1)
 
--- src/calm.rt:58:13
 is-triple-calm-requires : tie.Need-is-triple-calm-requires Inv-loop μ-loop
-is-triple-calm-requires c κs = ?
+is-triple-calm-requires c κs = search needs
 
--- src/calm.rt:60:20
 mul-result : tie.Need-mul-result Inv-loop μ-loop
-mul-result c = ?
+mul-result c = let l = c .before .before .before .before in
+    let a = l .before .before .before in
+    omega (arith, a .pre .2, l .loop .inv .upto)
 
--- src/calm.rt:60:13
 returns : tie.Need-returns Inv-loop μ-loop
-returns c = ?
+returns c = let l = c .before .before .before .before in
+    (omega (arith, l .loop .inv .upto), l .loop .inv .clear)
 
--- src/calm.rt:63:9
 add-t : tie.Need-add-t Inv-loop μ-loop
-add-t c = ?
+add-t c = let a = c .before .before .before .before .before .before .before in omega (arith, a .pre .2, c .before .before .before .loop-test .taken)
 
--- src/calm.rt:55:5
 loop-less : tie.Need-loop-less Inv-loop μ-loop
-loop-less c = ?
+loop-less c = omega (arith, c .before .before .before .loop-test .taken)
 
--- src/calm.rt:55:5
 loop-again : tie.Need-loop-again Inv-loop μ-loop
-loop-again c = ?
+loop-again c = let l = c .before .before .before .before in
+    let a = l .before .before .before in
+    calming-more (a .args .channel .now) (a .args .n) (a .pre .0) _ _ (l .loop .inv) (c .before .before .before .loop-test .taken) _ (c .before .before .triple2 .ensures .0)
+    (sym (c .before .is-triple-calm .ensures) ∙ not-false _ (c .if1 .left))
 
--- src/calm.rt:65:5
 mul-result-2 : tie.Need-mul-result-2 Inv-loop μ-loop
-mul-result-2 c = ?
+mul-result-2 c = let l = c .before in
+    let a = l .before .before .before in
+    omega (arith, a .pre .2, l .loop .inv .upto)
 
--- src/calm.rt:49:1
 returns-2 : tie.Need-returns-2 Inv-loop μ-loop
-returns-2 c = ?
+returns-2 c = let l = c .before in (omega (arith, l .loop .inv .upto), l .loop .inv .clear)
 
 pub calm-until-spec : {M : Type 1} → statement M
 calm-until-spec =

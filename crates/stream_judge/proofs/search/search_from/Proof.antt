@@ -1,82 +1,84 @@
+-- `search::search_from` meets its contract: the invariant is that nothing offends before bit p, and v is the window there (`Passing`).
+-- Assumes nothing.
+use Prim.Native.Nat.{_-_, _*_}
+use native.Mathlib.Omega.{arith}
+use borrow.Author.Needs.{needs}
+use Rattle.stream_windows.specs.Window.Found.{Passing, passing-start, passing-more, passing-found, passing-all}
 use Rattle.stream_judge.proofs.search.search_from.Statement.{statement}
 use Rattle.stream_judge.proofs.search.search_from.Tie as tie
-use Rattle.stream_judge.proofs.search.search_from.Reads as reads
-use Rattle.stream_judge.proofs.search.search_from.Lts as lts
-use Rattle.stream_judge.proofs.bits.bit_at.Reads as bit-at-reads
-use Rattle.stream_judge.proofs.bits.window_at.Reads as window-at-reads
-use Rattle.stream_judge.proofs.search.offence_in.Reads as offence-in-reads
-use Rattle.words.proofs.all_words.Reads as all-words-reads
-use Rattle.words.proofs.guide.Reads as guide-reads
 
 abbrev Inv-loop : tie.InvT-loop
-Inv-loop channel n start table guide total v₀ p₀ v p = ?
+Inv-loop channel n start table guide total v₀ p₀ v p = Passing channel n p v
 
 abbrev μ-loop : tie.MeasureT-loop
-μ-loop channel n start table guide total v₀ p₀ v p = ?
+μ-loop channel n start table guide total v₀ p₀ v p = 57624 * n - p
 
--- src/search.rt:86:17
 all-words-requires : tie.Need-all-words-requires Inv-loop μ-loop
-all-words-requires c κs = ?
+all-words-requires c κs = search needs
 
--- src/search.rt:87:17
 guide-requires : tie.Need-guide-requires Inv-loop μ-loop
-guide-requires c κs = ?
+guide-requires c κs = search needs
 
--- src/search.rt:88:17
 mul-total : tie.Need-mul-total Inv-loop μ-loop
-mul-total c = ?
+mul-total c = let a = c .before .before .before in omega (arith, a .pre .0, a .pre .1)
 
--- src/search.rt:89:9
 window-at-requires : tie.Need-window-at-requires Inv-loop μ-loop
-window-at-requires c κs = ?
+window-at-requires c κs = let a = c .before .before .before in (omega (arith, a .pre .0, a .pre .1), omega (arith, a .pre .0, a .pre .2))
 
--- src/search.rt:91:5
 loop-holds : tie.Need-loop-holds Inv-loop μ-loop
-loop-holds c = ?
+loop-holds c = let a = c .before .before .before .before in
+    passing-start (a .args .channel .now) (a .args .n) (a .pre .0) _ _ (a .pre .2) (a .pre .3) (c .window-at .ensures)
 
--- src/search.rt:92:13
 offence-in-requires : tie.Need-offence-in-requires Inv-loop μ-loop
-offence-in-requires c κs = ?
+offence-in-requires c κs = let l = c .before .before .before in
+    (l .before .before .before .all-words .ensures, l .before .before .guide .ensures)
 
--- src/search.rt:94:13
 returns : tie.Need-returns Inv-loop μ-loop
-returns c = ?
+returns c = let l = c .before .before .before .before .before in
+    let a = l .before .before .before .before .before in
+    passing-found _ _ (a .pre .0) _ _ (l .loop .inv) _ (c .before .offence-in .ensures) (a .pre .1) (c .if1 .taken)
 
--- src/search.rt:96:39
 add-bit-at : tie.Need-add-bit-at Inv-loop μ-loop
-add-bit-at c = ?
+add-bit-at c = let l = c .before .before .before .before .before in
+    let a = l .before .before .before .before .before in
+    omega (arith, c .before .before .before .before .loop-test .taken, a .pre .0, a .pre .1)
 
--- src/search.rt:96:13
 bit-at-requires : tie.Need-bit-at-requires Inv-loop μ-loop
-bit-at-requires c κs = ?
+bit-at-requires c κs = let l = c .before .before .before .before .before in
+    let a = l .before .before .before .before .before in
+    (omega (arith, a .pre .0, a .pre .1), omega (arith, c .before .before .before .before .loop-test .taken, a .pre .0))
 
--- src/search.rt:97:14
 mul-v : tie.Need-mul-v Inv-loop μ-loop
-mul-v c = ?
+mul-v c = let l = c .before .before .before .before .before .before in
+    omega (arith, l .loop .inv .small)
 
--- src/search.rt:97:14
 add-v : tie.Need-add-v Inv-loop μ-loop
-add-v c = ?
+add-v c = let l = c .before .before .before .before .before .before in
+    omega (arith, l .loop .inv .small, c .bit-at .ensures .1)
 
--- src/search.rt:98:9
 add-p : tie.Need-add-p Inv-loop μ-loop
-add-p c = ?
+add-p c = let l = c .before .before .before .before .before .before in
+    let a = l .before .before .before .before .before in
+    omega (arith, c .before .before .before .before .before .loop-test .taken, a .pre .0, a .pre .1)
 
--- src/search.rt:91:5
 loop-less : tie.Need-loop-less Inv-loop μ-loop
-loop-less c = ?
+loop-less c = let l = c .before .before .before .before .before .before in
+    let a = l .before .before .before .before .before in
+    omega (arith, c .before .before .before .before .before .loop-test .taken, a .pre .0)
 
--- src/search.rt:91:5
 loop-again : tie.Need-loop-again Inv-loop μ-loop
-loop-again c = ?
+loop-again c = let l = c .before .before .before .before .before .before in
+    let a = l .before .before .before .before .before in
+    passing-more _ _ (a .pre .0) _ _ (l .loop .inv) _ (c .before .before .offence-in .ensures) (omega (arith, c .before .before .before .before .before .loop-test .taken, a .pre .0)) (c .before .if1 .left) _ (c .bit-at .ensures .0)
 
--- src/search.rt:100:9
 offence-in-requires-2 : tie.Need-offence-in-requires-2 Inv-loop μ-loop
-offence-in-requires-2 c κs = ?
+offence-in-requires-2 c κs = let l = c .before .before .before in
+    (l .before .before .before .all-words .ensures, l .before .before .guide .ensures)
 
--- src/search.rt:82:1
 returns-2 : tie.Need-returns-2 Inv-loop μ-loop
-returns-2 c = ?
+returns-2 c = let l = c .before .before .before .before in
+    let a = l .before .before .before .before .before in
+    passing-all _ _ (a .pre .0) _ _ (l .loop .inv) _ (c .offence-in2 .ensures) (a .pre .1) (omega (arith, c .before .before .before .loop-test .left, a .pre .0))
 
 pub search-from-spec : {M : Type 1} → statement M
 search-from-spec =

@@ -1,63 +1,59 @@
+-- `words_listed::is_frame_right` meets its contract: the invariant is that the first i words of the frame are right (`words-more`).
+-- Assumes nothing.
+use mathlib.Core.Bool.{false≢true}
+use Prim.Native.Nat.{_-_, _≤_}
+use native.Mathlib.Omega.{arith}
+use borrow.Author.Tests.{not-false}
+use Rattle.stream_judge.specs.Inner.{WordsRight}
+use Rattle.stream_judge.proofs.Passes.{words-more}
 use Rattle.stream_judge.proofs.words_listed.is_frame_right.Statement.{statement}
 use Rattle.stream_judge.proofs.words_listed.is_frame_right.Tie as tie
-use Rattle.stream_judge.proofs.words_listed.is_frame_right.Reads as reads
-use Rattle.stream_judge.proofs.words_listed.is_frame_right.Lts as lts
-use Rattle.stream_judge.proofs.bits.word_at.Reads as word-at-reads
-use Rattle.stream_judge.proofs.words_listed.is_right_word.Reads as is-right-word-reads
 
 abbrev Inv-loop : tie.InvT-loop
-Inv-loop channel table guide f row i₀ i = ?
+Inv-loop channel table guide f row i₀ i = (i ≤ 33) × WordsRight channel f i
 
 abbrev μ-loop : tie.MeasureT-loop
-μ-loop channel table guide f row i₀ i = ?
+μ-loop channel table guide f row i₀ i = 33 - i
 
--- src/words_listed.rt:54:5
 loop-holds : tie.Need-loop-holds Inv-loop μ-loop
-loop-holds c = ?
+loop-holds c = (omega arith, λ i h. absurd (omega arith))
 
--- src/words_listed.rt:55:40
 mul-word-at : tie.Need-mul-word-at Inv-loop μ-loop
-mul-word-at c = ?
+mul-word-at c = let a = c .before .before .before in omega (arith, a .pre .2, a .pre .3)
 
--- src/words_listed.rt:55:40
 add-word-at : tie.Need-add-word-at Inv-loop μ-loop
-add-word-at c = ?
+add-word-at c = let a = c .before .before .before in omega (arith, a .pre .2, a .pre .3)
 
--- src/words_listed.rt:55:55
 mul-word-at-2 : tie.Need-mul-word-at-2 Inv-loop μ-loop
-mul-word-at-2 c = ?
+mul-word-at-2 c = omega (arith, c .loop-test .taken)
 
--- src/words_listed.rt:55:40
 add-word-at-2 : tie.Need-add-word-at-2 Inv-loop μ-loop
-add-word-at-2 c = ?
+add-word-at-2 c = let a = c .before .before .before in omega (arith, a .pre .2, a .pre .3, c .loop-test .taken)
 
--- src/words_listed.rt:55:13
 word-at-requires : tie.Need-word-at-requires Inv-loop μ-loop
-word-at-requires c κs = ?
+word-at-requires c κs = let a = c .before .before .before in (a .pre .2, omega (arith, a .pre .3, c .loop-test .taken))
 
--- src/words_listed.rt:56:13
 is-right-word-requires : tie.Need-is-right-word-requires Inv-loop μ-loop
-is-right-word-requires c κs = ?
+is-right-word-requires c κs = let a = c .before .before .before .before in (a .pre .0, a .pre .1)
 
--- src/words_listed.rt:58:13
 returns : tie.Need-returns Inv-loop μ-loop
-returns c = ?
+returns c = λ e. absurd (false≢true e)
 
--- src/words_listed.rt:60:9
 add-i : tie.Need-add-i Inv-loop μ-loop
-add-i c = ?
+add-i c = omega (arith, c .before .before .before .loop-test .taken)
 
--- src/words_listed.rt:54:5
 loop-less : tie.Need-loop-less Inv-loop μ-loop
-loop-less c = ?
+loop-less c = omega (arith, c .before .before .before .loop-test .taken)
 
--- src/words_listed.rt:54:5
 loop-again : tie.Need-loop-again Inv-loop μ-loop
-loop-again c = ?
+loop-again c = let l = c .before .before .before .before in
+    let a = l .before .before in (
+      omega (arith, c .before .before .before .loop-test .taken),
+      words-more (a .args .channel .now) (a .args .f) _ _ _ (l .loop .inv .1) (c .before .before .word-at .ensures) (c .before .is-right-word .ensures) (not-false _ (c .if1 .left)),
+    )
 
--- src/words_listed.rt:48:1
 returns-2 : tie.Need-returns-2 Inv-loop μ-loop
-returns-2 c = ?
+returns-2 c = λ e i h. c .before .loop .inv .1 i (omega (arith, c .loop-test .left))
 
 pub is-frame-right-spec : {M : Type 1} → statement M
 is-frame-right-spec =

@@ -1,0 +1,268 @@
+//! Judging: our writer's Sections and a partner's, and each kind of offence at any place, alone and with others.
+
+use crate::*;
+use second::channel::judging::judge_sections;
+use second::channel::merging::{
+    allowed, headers, keeps_the_run_rule, Merging, BEFORE_A_HEADER, BEFORE_A_WORD,
+};
+use second::channel::words::{words, Word, SYNC_0, SYNC_1, SYNC_HEADER};
+
+/// The number and the bit position, the same on both sides.
+fn same_judged(channel: &[u8]) -> (u8, usize) {
+    let expected = proved::told_of(judge_sections(channel), |()| vec![]);
+    assert_eq!(proved::judge_sections(channel), expected);
+    (expected.number, expected.values[0] as usize)
+}
+
+const ACCEPTED: (u8, usize) = (0, 0);
+
+fn any_of(random: &mut Random, bits: &mut Vec<u8>, offered: &[Merging], following: &[u8]) {
+    let fit: Vec<_> = offered.iter().filter(|&&m| allowed(bits, m, following)).collect();
+    bits.extend(fit[random.below(fit.len())]);
+    bits.extend(following);
+}
+
+/// What stands at a place of a frame, with random bytes.
+fn word_at(random: &mut Random, words: &[Word], frame: usize, place: usize) -> Word {
+    match (frame % 98, place) {
+        (0, 0) => SYNC_0,
+        (1, 0) => SYNC_1,
+        _ => words[random.byte() as usize],
+    }
+}
+
+/// The bits of a partner's Sections: any words that the given rule puts in place, and any Merging bits that are allowed.
+fn partner(
+    random: &mut Random,
+    count: usize,
+    rule: impl Fn(usize, usize, Word) -> Word,
+) -> Vec<u8> {
+    let words = words();
+    let mut bits = SYNC_HEADER.to_vec();
+    for frame in 0..98 * count {
+        for place in 0..33 {
+            let word = word_at(random, &words, frame, place);
+            any_of(random, &mut bits, &BEFORE_A_WORD, &rule(frame, place, word));
+        }
+        any_of(random, &mut bits, &BEFORE_A_HEADER, &SYNC_HEADER);
+    }
+    bits.truncate(BITS * count);
+    bits
+}
+
+fn as_it_is(_: usize, _: usize, word: Word) -> Word {
+    word
+}
+
+/// Every stretch of one to nine of twelve Sections that the proved writer makes.
+#[test]
+fn our_own_pass() {
+    let mut random = Random::new(1);
+    let mut state = SectionWriter::new();
+    let mut channel = Vec::new();
+    for _ in 0..12 {
+        let (frames, control) = (random.bytes(FRAME_BYTES), random.bytes(CONTROL_BYTES));
+        let mut out = vec![0; PACKED];
+        assert_eq!(proved::write_section(&mut state, &frames, &control, &mut out), 0);
+        channel.extend(out);
+    }
+    for first in 0..12 {
+        for last in first + 1..=12.min(first + 9) {
+            assert_eq!(same_judged(&channel[PACKED * first..PACKED * last]), ACCEPTED);
+        }
+    }
+}
+
+/// A partner's Sections pass, and are read without marks 1 and 4 and with the SYNCs at their places.
+#[test]
+fn a_partner_passes() {
+    let mut random = Random::new(2);
+    for count in [1, 2, 3, 9] {
+        let channel = pack(&partner(&mut random, count, as_it_is));
+        assert_eq!(same_judged(&channel), ACCEPTED);
+        for section in channel.chunks(PACKED) {
+            let (answer, [_, marks]) = same_read(section, [READ_BYTES; 2]);
+            assert_eq!(answer, 0);
+            let expected = |place| [2, 3].get(place / 33).filter(|_| place % 33 == 0);
+            for (place, mark) in marks.iter().enumerate() {
+                assert_eq!(mark, expected(place).unwrap_or(&0));
+            }
+        }
+    }
+}
+
+/// A bit of the stream: anywhere, about the borders of Sections, at the beginning or at the very end.
+fn some_bit(random: &mut Random, length: usize) -> usize {
+    match random.below(4) {
+        0 => random.below(length),
+        1 => (BITS * random.below(length / BITS + 1) + random.below(80)).clamp(40, length + 39) - 40,
+        2 => random.below(60),
+        _ => length - 1 - random.below(60),
+    }
+}
+
+fn put(bits: &mut [u8], at: usize, more: &[u8]) {
+    for (bit, &digit) in bits[at..].iter_mut().zip(more) {
+        *bit = digit;
+    }
+}
+
+/// One offence of some kind: two ONEs too near, too many ZEROs, a Sync Header too many, one lost, a word, a SYNC, or just a bit.
+fn offend(random: &mut Random, bits: &mut [u8]) {
+    let at = some_bit(random, bits.len());
+    let frame = at / 588 * 588;
+    match random.below(7) {
+        0 => put(bits, at, &[1, 0, 0, 1][random.below(3)..]),
+        1 => put(bits, at, &vec![0; 9 + random.below(6)]),
+        2 => put(bits, at, &SYNC_HEADER),
+        3 => bits[frame + random.below(24)] ^= 1,
+        4 => {
+            let word: Vec<u8> = (0..14).map(|_| (random.below(4) == 0) as u8).collect();
+            put(bits, frame + 27 + 17 * random.below(33), &word);
+        }
+        5 => put(bits, frame + 27, [&SYNC_0, &SYNC_1][random.below(2)]),
+        _ => bits[at] ^= 1,
+    }
+}
+
+/// One to three offences at once in Sections of ours or a partner's.
+#[test]
+fn offences_anywhere() {
+    let mut random = Random::new(3);
+    let mut met = [0; 28];
+    for count in [1, 2, 3] {
+        let clean = partner(&mut random, count, as_it_is);
+        for _ in 0..600 {
+            let mut bits = clean.clone();
+            for _ in 0..1 + random.below(3) {
+                offend(&mut random, &mut bits);
+            }
+            met[same_judged(&pack(&bits)).0 as usize] += 1;
+        }
+    }
+    assert!([25, 26, 27].iter().all(|&number: &usize| met[number] > 100), "{met:?}");
+}
+
+/// Every bit of a Section flipped by itself, a few at a time over the frames.
+#[test]
+fn single_bits() {
+    let mut random = Random::new(4);
+    let clean = partner(&mut random, 1, as_it_is);
+    for at in (0..2 * 588).chain((2 * 588..BITS).step_by(53)).chain(BITS - 588..BITS) {
+        let mut channel = pack(&clean);
+        channel[at / 8] ^= 0x80 >> (at % 8);
+        assert_ne!(same_judged(&channel), ACCEPTED);
+    }
+}
+
+/// Words that no table has, and SYNCs out of place, with Merging bits that keep every other rule: 27 at the word's first bit.
+#[test]
+fn only_words_are_wrong() {
+    let mut random = Random::new(5);
+    let listed = words();
+    let fits = |word: &Word| keeps_the_run_rule(&[&[1, 0, 0, 0][..], word, &[0, 0, 1]].concat());
+    let strangers: Vec<Word> = (0..1 << 14)
+        .map(|n| std::array::from_fn(|digit| (n >> (13 - digit) & 1) as u8))
+        .filter(|word| !listed.contains(word) && *word != SYNC_0 && *word != SYNC_1 && fits(word))
+        .collect();
+    for count in [1, 2] {
+        for _ in 0..10 {
+            let (frame, place) = (random.below(98 * count), random.below(33));
+            let stranger = strangers[random.below(strangers.len())];
+            let change = |f, p, word| if (f, p) == (frame, place) { stranger } else { word };
+            let channel = pack(&partner(&mut random, count, change));
+            assert_eq!(same_judged(&channel), (27, 588 * frame + 27 + 17 * place));
+        }
+    }
+    let exchanged = |f, p, word| match (f, p) {
+        (0, 0) => SYNC_1,
+        (1, 0) => SYNC_0,
+        _ => word,
+    };
+    assert_eq!(same_judged(&pack(&partner(&mut random, 1, exchanged))), (27, 27));
+    let late = |f, p, word| if (f, p) == (100, 0) { SYNC_0 } else { word };
+    assert_eq!(same_judged(&pack(&partner(&mut random, 2, late))), (27, 588 * 100 + 27));
+}
+
+/// Merging bits that make a second Sync Header across the borders of words, with every run right: 26 at its own first bit.
+#[test]
+fn only_a_header_is_extra() {
+    let mut random = Random::new(6);
+    let words = words();
+    for _ in 0..3 {
+        let mut bits = SYNC_HEADER.to_vec();
+        let mut extra = None;
+        for frame in 0..98 {
+            for place in 0..33 {
+                let word = word_at(&mut random, &words, frame, place);
+                let tail = bits[bits.len() - 23..].to_vec();
+                let makes_one = |merging: &&Merging| {
+                    let more = [&tail[..], &merging[..], &word].concat();
+                    keeps_the_run_rule(&more) && !headers(&more).is_empty()
+                };
+                let found = BEFORE_A_WORD.iter().find(makes_one);
+                if let (None, Some(merging)) = (extra, found) {
+                    let more = [&tail[..], &merging[..], &word].concat();
+                    extra = Some(bits.len() - 23 + headers(&more)[0]);
+                    bits.extend(merging);
+                    bits.extend(word);
+                } else {
+                    any_of(&mut random, &mut bits, &BEFORE_A_WORD, &word);
+                }
+            }
+            any_of(&mut random, &mut bits, &BEFORE_A_HEADER, &SYNC_HEADER);
+        }
+        bits.truncate(BITS);
+        let bit = extra.expect("some words let a Sync Header be made");
+        assert_eq!(same_judged(&pack(&bits)), (26, bit));
+    }
+}
+
+/// The Sync Header that is taken to follow: all Merging bits before it, and the last position of all, 518,616.
+#[test]
+fn the_very_end() {
+    let mut random = Random::new(7);
+    let mut last = 0;
+    for _ in 0..20 {
+        let clean = partner(&mut random, 1, as_it_is);
+        for merging in 0..8 {
+            let mut bits = clean.clone();
+            put(&mut bits, BITS - 3, &[merging >> 2 & 1, merging >> 1 & 1, merging & 1]);
+            last += (same_judged(&pack(&bits)) == (25, BITS)) as usize;
+        }
+    }
+    assert!(last > 0);
+    let mut bits = partner(&mut random, 9, as_it_is);
+    put(&mut bits, 9 * BITS - 17, &[0, 0, 0, 0, 0, 0, 0, 0, 0, 0, 0, 0, 0, 0, 0, 1, 0]);
+    same_judged(&pack(&bits));
+    let endings = BEFORE_A_WORD
+        .iter()
+        .flat_map(|merging| words().into_iter().map(move |word| [&word[..], merging].concat()));
+    let before = bits[..9 * BITS - 17].to_vec();
+    let early = endings.map(|ending| [&before[..], &ending].concat()).find(|bits| {
+        let stream = [&bits[9 * BITS - 40..], &SYNC_HEADER].concat();
+        keeps_the_run_rule(&bits[9 * BITS - 40..]) && !keeps_the_run_rule(&stream)
+    });
+    let answer = same_judged(&pack(&early.expect("some ending comes too near")));
+    assert_eq!(answer, (25, 518_616));
+}
+
+/// Bytes of no order, all zeros and all ones.
+#[test]
+fn no_sections() {
+    let mut random = Random::new(8);
+    for _ in 0..20 {
+        assert_eq!(same_judged(&random.bytes(PACKED)), (26, 0));
+    }
+    for byte in [0x00, 0xFF] {
+        assert_eq!(same_judged(&[byte; 2 * PACKED]), (26, 0));
+    }
+}
+
+/// Refusal 1: anything but one to nine whole Sections.
+#[test]
+fn lengths() {
+    for length in [0, 1, 7202, 7204, 2 * PACKED - 1, 9 * PACKED + 1, 10 * PACKED, 11 * PACKED] {
+        assert_eq!(same_judged(&vec![0x80; length]), (1, 0));
+    }
+}
