@@ -1,24 +1,21 @@
 -- The passes frame by frame and bit by bit, and each way out of a call.
 -- Assumes nothing.
-use mathlib.Core.Path.{_≡_, refl, sym, ap, _∙_, subst}
-use mathlib.Core.Bool.{Bool, true, false, cond}
+use mathlib.Core.Path.{_≡_, refl, sym, ap, _∙_}
+use mathlib.Core.Bool.{Bool, true, cond}
 use mathlib.Core.List.{List, [], _∷_}
-use mathlib.Core.Logic.{_⊎_, inl, inr}
 use Prim.Native.Nat.{ℕ, _+_, _*_, _/_, _%_, _^_, _≤_, _<_}
 use native.Mathlib.Omega.{arith}
 use borrow.Author.Count.{below-more}
 use borrow.Author.Tests.{ne-eqb, eq-eqb, le-leb, lt-leb}
-use lib.Dec.{eqb}
 use lib.ListN.{length, getD}
 use lib.Pow.{pow-lt}
-use Rattle.outcome.specs.First.Found.{lt-or-le}
-use Rattle.outcome.specs.Say.{Say, done, refused}
+use Rattle.outcome.specs.Say.{done, refused}
 use Rattle.section_reader.specs.Reading.{fieldAt, wordRead}
 use Rattle.section_reader.specs.Reading.Fields.{field-lt}
 use Rattle.stream_rules.specs.Accepted.Exactly.{word-clean}
 use Rattle.stream_rules.specs.Offences.{judged, rightWord}
 use Rattle.stream_rules.specs.Offences.Stream.{binary-judged, length-judged}
-use Rattle.stream_rules.specs.Judging.{offence, verdict, rightLength, judging}
+use Rattle.stream_rules.specs.Judging.{verdict, rightLength, judging}
 use Rattle.stream_windows.specs.Window.{led, window}
 use Rattle.stream_windows.specs.Window.Found.{Finding, none-of-three}
 use Rattle.stream_windows.specs.Window.Lead.{binary-led, length-led}

@@ -2,7 +2,7 @@
 -- Assumes nothing.
 use mathlib.Core.Path.{_≡_, refl, sym, ap, ap₂, _∙_, subst}
 use mathlib.Core.Bool.{Bool, true, false, cond}
-use mathlib.Core.List.{List, [], _∷_, _++_, append-assoc, append-nil, map}
+use mathlib.Core.List.{List, [], _∷_, _++_, append-assoc, append-nil}
 use mathlib.Core.Logic.{_⊎_, inl, inr}
 use Prim.Native.Nat.{ℕ, zero, suc, _+_, _-_, _*_, _/_, _%_, _≤_, _<_}
 use native.Mathlib.Omega.{arith}
@@ -23,7 +23,7 @@ use Rattle.words.specs.Words.Different.{word-place}
 use Rattle.merging.specs.Automaton.{shown}
 use Rattle.merging.specs.Chosen.{SoFar}
 use Rattle.merging.specs.Places.{placed, earlier}
-use Rattle.merging.specs.Rule.{header, starts}
+use Rattle.merging.specs.Rule.{header}
 use Rattle.section_reader.specs.Reading.{fieldAt, wordRead}
 use Rattle.section_reader.specs.Reading.Fields.{field-keep, field-past}
 use Rattle.section_writer.specs.declared.SectionWriter.{SectionWriter}

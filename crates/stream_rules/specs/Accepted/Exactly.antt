@@ -3,13 +3,11 @@
 use mathlib.Core.Path.{_≡_, refl, sym, ap, _∙_}
 use mathlib.Core.Bool.{Bool, true, false, cond, not, _&&_}
 use mathlib.Core.List.{List, [], _++_}
-use mathlib.Core.Logic.{_⊎_, inl, inr}
 use Prim.Native.Nat.{ℕ, _+_, _-_, _*_, _/_, _%_, _≤_, _<_}
 use native.Mathlib.Omega.{arith}
 use borrow.Author.Tests.{leb-true, eqb-true, not-false, le-leb}
 use lib.Dec.{eqb, leb}
 use lib.ListN.{length, drop, length-append}
-use Rattle.outcome.specs.First.Found.{lt-or-le}
 use Rattle.outcome.specs.Say.{done}
 use Rattle.outcome.specs.Say.Refusals.{never}
 use Rattle.outcome.specs.Table.Entries.{and-left, and-right, of-true, true-of}
@@ -18,7 +16,7 @@ use Rattle.bits.specs.Bits.Packed.{length-unpack}
 use Rattle.bits.specs.Binary.{Binary}
 use Rattle.merging.specs.Rule.{header, starts}
 use Rattle.section_reader.specs.Reading.{fieldAt, wordRead}
-use Rattle.stream_rules.specs.Offences.{judged, headerOffends, rightWord, wordPlace, wordOffends}
+use Rattle.stream_rules.specs.Offences.{headerOffends, rightWord, wordPlace, wordOffends}
 use Rattle.stream_rules.specs.Offences.RunRule.{runs-if-clean, clean-if-runs}
 use Rattle.stream_rules.specs.Offences.Stream.{binary-unpack}
 use Rattle.stream_rules.specs.Judging.{rightLength, judging}

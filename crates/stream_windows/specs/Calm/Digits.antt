@@ -1,8 +1,8 @@
 -- Digits of what is shifted and joined bit by bit.
 -- Assumes nothing.
-use mathlib.Core.Path.{_≡_, refl, sym, ap, ap₂, _∙_}
+use mathlib.Core.Path.{_≡_, sym, ap, ap₂, _∙_}
 use Prim.Native.Nat.{ℕ, zero, suc, _+_, _*_, _/_, _%_, _^_, _≤_, _<_, min, max}
-use native.Mathlib.Nat.{min-le-left, max-le, le-of-suc-le-suc}
+use native.Mathlib.Nat.{min-le-left, max-le}
 use native.Mathlib.Omega.{arith}
 use lib.Bits.{bitAnd, bitOr, and-step, or-step}
 use lib.Pow.{shr-shr, field, mod-mod-pow}
@@ -17,9 +17,6 @@ digit-suc : (x i : ℕ) → digit x (suc i) ≡ digit (x / 2) i
 digit-suc x i =
     let e : suc i ≡ 1 + i = omega arith in
     ap (digit x) e ∙ sym (digit-shift x 1 i)
-
-below-two : (a b m : ℕ) → m ≤ a % 2 → m < 2
-below-two a b m h = omega arith
 
 pub digit-and : (i a b : ℕ) → digit (bitAnd a b) i ≡ min (digit a i) (digit b i)
 digit-and zero a b =

@@ -1,9 +1,8 @@
 -- What the tests on 64 bits show of a window in them.
 -- Assumes nothing.
-use mathlib.Core.Path.{_≡_, refl, sym, ap, _∙_, subst}
-use mathlib.Core.Bool.{Bool, true, false, not, _&&_, _||_}
-use mathlib.Core.List.{List}
-use Prim.Native.Nat.{ℕ, _+_, _-_, _*_, _/_, _%_, _^_, _≤_, _<_}
+use mathlib.Core.Path.{_≡_, refl, sym, ap, _∙_}
+use mathlib.Core.Bool.{true, false, _&&_, _||_}
+use Prim.Native.Nat.{ℕ, _+_, _-_, _/_, _%_, _^_, _≤_, _<_}
 use native.Mathlib.Nat.{zero-div}
 use native.Mathlib.Omega.{arith}
 use borrow.Author.Tests.{eqb-true, ne-eqb}
@@ -128,9 +127,9 @@ module _ (w e d : ℕ) (h : d < 24) (c : calm w e ≡ true) where
       ap (digit w) m ∙ sym (digit-shift w (24 + d) k) ∙ ap (λ (y : ℕ). digit y k) (sym g)
 
   -- two ONEs one or two places apart
-  apart : (k : ℕ) → digit w (24 + d) ≡ 1 → digit (bitOr (w / 2 ^ 1) (w / 2 ^ 2)) (24 + d) ≡ 1 → view / 8388608 ≡ view / 8388608 → ⊥
+  apart : digit w (24 + d) ≡ 1 → digit (bitOr (w / 2 ^ 1) (w / 2 ^ 2)) (24 + d) ≡ 1 → ⊥
   unfolding tight
-  apart k a b z = not-both (digit (tight w) (24 + d)) (ap (λ (x : ℕ). digit x (24 + d)) loose ∙ nought (24 + d)) (and-one (24 + d) w (bitOr (w / 2 ^ 1) (w / 2 ^ 2)) a b)
+  apart a b = not-both (digit (tight w) (24 + d)) (ap (λ (x : ℕ). digit x (24 + d)) loose ∙ nought (24 + d)) (and-one (24 + d) w (bitOr (w / 2 ^ 1) (w / 2 ^ 2)) a b)
 
   none-near : eqb (view / 8388608 % 4) 3 ≡ false
   none-near =
@@ -138,9 +137,8 @@ module _ (w e d : ℕ) (h : d < 24) (c : calm w e ≡ true) where
       (λ z.
       let x = w / 2 ^ (24 + d) in
       let t : x % 4096 % 4 ≡ 3 = ap (λ (y : ℕ). y % 4) (sym upto) ∙ z in
-      let a : x / 2 ^ 0 % 2 ≡ 1 = omega (arith, t) in
       let b : x / 2 ^ 1 % 2 ≡ 1 = omega (arith, t) in
-      apart 0 (omega (arith, t)) (or-one-first (24 + d) (w / 2 ^ 1) (w / 2 ^ 2) (digit-shift w 1 (24 + d) ∙ here x refl 1 ∙ b)) refl)
+      apart (omega (arith, t)) (or-one-first (24 + d) (w / 2 ^ 1) (w / 2 ^ 2) (digit-shift w 1 (24 + d) ∙ here x refl 1 ∙ b)))
 
   none-close : eqb (view / 8388608 % 8) 5 ≡ false
   none-close =
@@ -149,7 +147,7 @@ module _ (w e d : ℕ) (h : d < 24) (c : calm w e ≡ true) where
       let x = w / 2 ^ (24 + d) in
       let t : x % 4096 % 8 ≡ 5 = ap (λ (y : ℕ). y % 8) (sym upto) ∙ z in
       let b : x / 2 ^ 2 % 2 ≡ 1 = omega (arith, t) in
-      apart 0 (omega (arith, t)) (or-one-second (24 + d) (w / 2 ^ 1) (w / 2 ^ 2) (digit-shift w 2 (24 + d) ∙ here x refl 2 ∙ b)) refl)
+      apart (omega (arith, t)) (or-one-second (24 + d) (w / 2 ^ 1) (w / 2 ^ 2) (digit-shift w 2 (24 + d) ∙ here x refl 2 ∙ b)))
 
   none-far : eqb (view / 8388608) 2048 ≡ false
   none-far =

@@ -2,13 +2,13 @@
 -- Assumes nothing.
 use mathlib.Core.Path.{_≡_, refl, sym, ap, _∙_}
 use mathlib.Core.List.{List, [], _∷_, _++_}
-use Prim.Native.Nat.{ℕ, zero, suc, _+_, _-_, _*_, _/_, _%_, _^_, _≤_, _<_}
+use Prim.Native.Nat.{ℕ, suc, _+_, _-_, _*_, _/_, _%_, _^_, _≤_, _<_}
 use native.Mathlib.Omega.{arith}
 use lib.ListN.{length, getD, drop, List·getD-append}
 use lib.Seq.{getD-drop, drop-cons}
 use Rattle.outcome.specs.Bytes.{Bytes}
 use Rattle.lists.specs.Each.Case.{case}
-use Rattle.bits.specs.Bits.{bitsOf, number, unpack}
+use Rattle.bits.specs.Bits.{bitsOf, unpack}
 use Rattle.bits.specs.Bits.Fields.{threeBytes, from-three}
 use Rattle.bits.specs.Bits.Packed.{length-unpack, unpack-drop}
 use Rattle.merging.specs.Rule.{header}

@@ -1,7 +1,6 @@
 -- `bits::triple` meets its contract: a triple is three bytes, or the Sync Header behind them (`triple-in`, `triple-behind`).
 -- Assumes nothing.
 use mathlib.Core.Path.{_∙_}
-use Prim.Native.Nat.{_*_}
 use native.Mathlib.Omega.{arith}
 use Rattle.stream_windows.specs.Window.Bytes.{triple-in, triple-behind}
 use borrow.Author.Needs.{needs}
