@@ -95,7 +95,9 @@ fn a_partner_passes() {
 fn some_bit(random: &mut Random, length: usize) -> usize {
     match random.below(4) {
         0 => random.below(length),
-        1 => (BITS * random.below(length / BITS + 1) + random.below(80)).clamp(40, length + 39) - 40,
+        1 => {
+            (BITS * random.below(length / BITS + 1) + random.below(80)).clamp(40, length + 39) - 40
+        }
         2 => random.below(60),
         _ => length - 1 - random.below(60),
     }
