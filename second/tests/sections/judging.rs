@@ -16,10 +16,20 @@ fn same_judged(channel: &[u8]) -> (u8, usize) {
 
 const ACCEPTED: (u8, usize) = (0, 0);
 
-fn any_of(random: &mut Random, bits: &mut Vec<u8>, offered: &[Merging], following: &[u8]) {
+/// Any allowed Merging bits and what follows them; nothing where none are allowed.
+fn any_of(
+    random: &mut Random,
+    bits: &mut Vec<u8>,
+    offered: &[Merging],
+    following: &[u8],
+) -> Option<()> {
     let fit: Vec<_> = offered.iter().filter(|&&m| allowed(bits, m, following)).collect();
+    if fit.is_empty() {
+        return None;
+    }
     bits.extend(fit[random.below(fit.len())]);
     bits.extend(following);
+    Some(())
 }
 
 /// What stands at a place of a frame, with random bytes.
@@ -31,27 +41,29 @@ fn word_at(random: &mut Random, words: &[Word], frame: usize, place: usize) -> W
     }
 }
 
-/// The bits of a partner's Sections: any words that the given rule puts in place, and any Merging bits that are allowed.
-fn partner(
+/// The bits of Sections with any words that the given rule puts in place, and any Merging bits that are allowed; nothing where the
+/// rule's own words leave none.
+fn changed(
     random: &mut Random,
     count: usize,
     rule: impl Fn(usize, usize, Word) -> Word,
-) -> Vec<u8> {
+) -> Option<Vec<u8>> {
     let words = words();
     let mut bits = SYNC_HEADER.to_vec();
     for frame in 0..98 * count {
         for place in 0..33 {
             let word = word_at(random, &words, frame, place);
-            any_of(random, &mut bits, &BEFORE_A_WORD, &rule(frame, place, word));
+            any_of(random, &mut bits, &BEFORE_A_WORD, &rule(frame, place, word))?;
         }
-        any_of(random, &mut bits, &BEFORE_A_HEADER, &SYNC_HEADER);
+        any_of(random, &mut bits, &BEFORE_A_HEADER, &SYNC_HEADER)?;
     }
     bits.truncate(BITS * count);
-    bits
+    Some(bits)
 }
 
-fn as_it_is(_: usize, _: usize, word: Word) -> Word {
-    word
+/// The bits of a partner's Sections.
+fn partner(random: &mut Random, count: usize) -> Vec<u8> {
+    changed(random, count, |_, _, word| word).expect("some Merging bits are allowed")
 }
 
 /// Every stretch of one to nine of twelve Sections that the proved writer makes.
@@ -78,7 +90,7 @@ fn our_own_pass() {
 fn a_partner_passes() {
     let mut random = Random::new(2);
     for count in [1, 2, 3, 9] {
-        let channel = pack(&partner(&mut random, count, as_it_is));
+        let channel = pack(&partner(&mut random, count));
         assert_eq!(same_judged(&channel), ACCEPTED);
         for section in channel.chunks(PACKED) {
             let (answer, [_, marks]) = same_read(section, [READ_BYTES; 2]);
@@ -133,7 +145,7 @@ fn offences_anywhere() {
     let mut random = Random::new(3);
     let mut met = [0; 28];
     for count in [1, 2, 3] {
-        let clean = partner(&mut random, count, as_it_is);
+        let clean = partner(&mut random, count);
         for _ in 0..600 {
             let mut bits = clean.clone();
             for _ in 0..1 + random.below(3) {
@@ -145,16 +157,19 @@ fn offences_anywhere() {
     assert!([25, 26, 27].iter().all(|&number: &usize| met[number] > 100), "{met:?}");
 }
 
-/// Every bit of a Section flipped by itself, a few at a time over the frames.
+/// Single bits flipped: every one of the first two frames and of the last, and some of the others. Many are left free: Merging bits, and
+/// words that differ in a bit.
 #[test]
 fn single_bits() {
     let mut random = Random::new(4);
-    let clean = partner(&mut random, 1, as_it_is);
+    let clean = partner(&mut random, 1);
+    let mut free = 0;
     for at in (0..2 * 588).chain((2 * 588..BITS).step_by(53)).chain(BITS - 588..BITS) {
         let mut channel = pack(&clean);
         channel[at / 8] ^= 0x80 >> (at % 8);
-        assert_ne!(same_judged(&channel), ACCEPTED);
+        free += (same_judged(&channel) == ACCEPTED) as usize;
     }
+    assert!((1..1400).contains(&free), "{free}");
 }
 
 /// Words that no table has, and SYNCs out of place, with Merging bits that keep every other rule: 27 at the word's first bit.
@@ -162,28 +177,33 @@ fn single_bits() {
 fn only_words_are_wrong() {
     let mut random = Random::new(5);
     let listed = words();
-    let fits = |word: &Word| keeps_the_run_rule(&[&[1, 0, 0, 0][..], word, &[0, 0, 1]].concat());
+    let fits = |word: &Word| word.contains(&1) && keeps_the_run_rule(word);
     let strangers: Vec<Word> = (0..1 << 14)
         .map(|n| std::array::from_fn(|digit| (n >> (13 - digit) & 1) as u8))
         .filter(|word| !listed.contains(word) && *word != SYNC_0 && *word != SYNC_1 && fits(word))
         .collect();
-    for count in [1, 2] {
-        for _ in 0..10 {
-            let (frame, place) = (random.below(98 * count), random.below(33));
-            let stranger = strangers[random.below(strangers.len())];
-            let change = |f, p, word| if (f, p) == (frame, place) { stranger } else { word };
-            let channel = pack(&partner(&mut random, count, change));
-            assert_eq!(same_judged(&channel), (27, 588 * frame + 27 + 17 * place));
+    let mut met = 0;
+    for n in 0..60 {
+        let (count, place) = (1 + n % 2, random.below(33));
+        let frame = random.below(98 * count);
+        let stranger = strangers[random.below(strangers.len())];
+        let change = |f, p, word| if (f, p) == (frame, place) { stranger } else { word };
+        if let Some(bits) = changed(&mut random, count, change) {
+            assert_eq!(same_judged(&pack(&bits)), (27, 588 * frame + 27 + 17 * place));
+            met += 1;
         }
     }
+    assert!(met > 10, "{met}");
     let exchanged = |f, p, word| match (f, p) {
         (0, 0) => SYNC_1,
         (1, 0) => SYNC_0,
         _ => word,
     };
-    assert_eq!(same_judged(&pack(&partner(&mut random, 1, exchanged))), (27, 27));
+    let bits = changed(&mut random, 1, exchanged).expect("some Merging bits are allowed");
+    assert_eq!(same_judged(&pack(&bits)), (27, 27));
     let late = |f, p, word| if (f, p) == (100, 0) { SYNC_0 } else { word };
-    assert_eq!(same_judged(&pack(&partner(&mut random, 2, late))), (27, 588 * 100 + 27));
+    let bits = changed(&mut random, 2, late).expect("some Merging bits are allowed");
+    assert_eq!(same_judged(&pack(&bits)), (27, 588 * 100 + 27));
 }
 
 /// Merging bits that make a second Sync Header across the borders of words, with every run right: 26 at its own first bit.
@@ -209,10 +229,12 @@ fn only_a_header_is_extra() {
                     bits.extend(merging);
                     bits.extend(word);
                 } else {
-                    any_of(&mut random, &mut bits, &BEFORE_A_WORD, &word);
+                    let done = any_of(&mut random, &mut bits, &BEFORE_A_WORD, &word);
+                    done.expect("some Merging bits are allowed");
                 }
             }
-            any_of(&mut random, &mut bits, &BEFORE_A_HEADER, &SYNC_HEADER);
+            let done = any_of(&mut random, &mut bits, &BEFORE_A_HEADER, &SYNC_HEADER);
+            done.expect("some Merging bits are allowed");
         }
         bits.truncate(BITS);
         let bit = extra.expect("some words let a Sync Header be made");
@@ -226,7 +248,7 @@ fn the_very_end() {
     let mut random = Random::new(7);
     let mut last = 0;
     for _ in 0..20 {
-        let clean = partner(&mut random, 1, as_it_is);
+        let clean = partner(&mut random, 1);
         for merging in 0..8 {
             let mut bits = clean.clone();
             put(&mut bits, BITS - 3, &[merging >> 2 & 1, merging >> 1 & 1, merging & 1]);
@@ -234,7 +256,7 @@ fn the_very_end() {
         }
     }
     assert!(last > 0);
-    let mut bits = partner(&mut random, 9, as_it_is);
+    let mut bits = partner(&mut random, 9);
     put(&mut bits, 9 * BITS - 17, &[0, 0, 0, 0, 0, 0, 0, 0, 0, 0, 0, 0, 0, 0, 0, 1, 0]);
     same_judged(&pack(&bits));
     let endings = BEFORE_A_WORD

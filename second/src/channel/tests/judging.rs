@@ -2,7 +2,6 @@
 
 use super::*;
 use crate::channel::judging::judge_sections;
-use crate::refusal::Refusal::*;
 
 #[test]
 fn what_was_written_passes() {
