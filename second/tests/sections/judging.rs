@@ -1,70 +1,11 @@
-//! Judging: our writer's Sections and a partner's, and each kind of offence at any place, alone and with others.
+//! Judging: our writer's Sections and a partner's, and streams in which one thing is wrong.
 
+use crate::partner::*;
 use crate::*;
-use second::channel::judging::judge_sections;
 use second::channel::merging::{
-    allowed, headers, keeps_the_run_rule, Merging, BEFORE_A_HEADER, BEFORE_A_WORD,
+    headers, keeps_the_run_rule, Merging, BEFORE_A_HEADER, BEFORE_A_WORD,
 };
 use second::channel::words::{words, Word, SYNC_0, SYNC_1, SYNC_HEADER};
-
-/// The number and the bit position, the same on both sides.
-fn same_judged(channel: &[u8]) -> (u8, usize) {
-    let expected = proved::told_of(judge_sections(channel), |()| vec![]);
-    assert_eq!(proved::judge_sections(channel), expected);
-    (expected.number, expected.values[0] as usize)
-}
-
-const ACCEPTED: (u8, usize) = (0, 0);
-
-/// Any allowed Merging bits and what follows them; nothing where none are allowed.
-fn any_of(
-    random: &mut Random,
-    bits: &mut Vec<u8>,
-    offered: &[Merging],
-    following: &[u8],
-) -> Option<()> {
-    let fit: Vec<_> = offered.iter().filter(|&&m| allowed(bits, m, following)).collect();
-    if fit.is_empty() {
-        return None;
-    }
-    bits.extend(fit[random.below(fit.len())]);
-    bits.extend(following);
-    Some(())
-}
-
-/// What stands at a place of a frame, with random bytes.
-fn word_at(random: &mut Random, words: &[Word], frame: usize, place: usize) -> Word {
-    match (frame % 98, place) {
-        (0, 0) => SYNC_0,
-        (1, 0) => SYNC_1,
-        _ => words[random.byte() as usize],
-    }
-}
-
-/// The bits of Sections with any words that the given rule puts in place, and any Merging bits that are allowed; nothing where the
-/// rule's own words leave none.
-fn changed(
-    random: &mut Random,
-    count: usize,
-    rule: impl Fn(usize, usize, Word) -> Word,
-) -> Option<Vec<u8>> {
-    let words = words();
-    let mut bits = SYNC_HEADER.to_vec();
-    for frame in 0..98 * count {
-        for place in 0..33 {
-            let word = word_at(random, &words, frame, place);
-            any_of(random, &mut bits, &BEFORE_A_WORD, &rule(frame, place, word))?;
-        }
-        any_of(random, &mut bits, &BEFORE_A_HEADER, &SYNC_HEADER)?;
-    }
-    bits.truncate(BITS * count);
-    Some(bits)
-}
-
-/// The bits of a partner's Sections.
-fn partner(random: &mut Random, count: usize) -> Vec<u8> {
-    changed(random, count, |_, _, word| word).expect("some Merging bits are allowed")
-}
 
 /// Every stretch of one to nine of twelve Sections that the proved writer makes.
 #[test]
@@ -101,75 +42,6 @@ fn a_partner_passes() {
             }
         }
     }
-}
-
-/// A bit of the stream: anywhere, about the borders of Sections, at the beginning or at the very end.
-fn some_bit(random: &mut Random, length: usize) -> usize {
-    match random.below(4) {
-        0 => random.below(length),
-        1 => {
-            (BITS * random.below(length / BITS + 1) + random.below(80)).clamp(40, length + 39) - 40
-        }
-        2 => random.below(60),
-        _ => length - 1 - random.below(60),
-    }
-}
-
-fn put(bits: &mut [u8], at: usize, more: &[u8]) {
-    for (bit, &digit) in bits[at..].iter_mut().zip(more) {
-        *bit = digit;
-    }
-}
-
-/// One offence of some kind: two ONEs too near, too many ZEROs, a Sync Header too many, one lost, a word, a SYNC, or just a bit.
-fn offend(random: &mut Random, bits: &mut [u8]) {
-    let at = some_bit(random, bits.len());
-    let frame = at / 588 * 588;
-    match random.below(7) {
-        0 => put(bits, at, &[1, 0, 0, 1][random.below(3)..]),
-        1 => put(bits, at, &vec![0; 9 + random.below(6)]),
-        2 => put(bits, at, &SYNC_HEADER),
-        3 => bits[frame + random.below(24)] ^= 1,
-        4 => {
-            let word: Vec<u8> = (0..14).map(|_| (random.below(4) == 0) as u8).collect();
-            put(bits, frame + 27 + 17 * random.below(33), &word);
-        }
-        5 => put(bits, frame + 27, [&SYNC_0, &SYNC_1][random.below(2)]),
-        _ => bits[at] ^= 1,
-    }
-}
-
-/// One to three offences at once in Sections of ours or a partner's.
-#[test]
-fn offences_anywhere() {
-    let mut random = Random::new(3);
-    let mut met = [0; 28];
-    for count in [1, 2, 3] {
-        let clean = partner(&mut random, count);
-        for _ in 0..600 {
-            let mut bits = clean.clone();
-            for _ in 0..1 + random.below(3) {
-                offend(&mut random, &mut bits);
-            }
-            met[same_judged(&pack(&bits)).0 as usize] += 1;
-        }
-    }
-    assert!([25, 26, 27].iter().all(|&number: &usize| met[number] > 100), "{met:?}");
-}
-
-/// Single bits flipped: every one of the first two frames and of the last, and some of the others. Many are left free: Merging bits, and
-/// words that differ in a bit.
-#[test]
-fn single_bits() {
-    let mut random = Random::new(4);
-    let clean = partner(&mut random, 1);
-    let mut free = 0;
-    for at in (0..2 * 588).chain((2 * 588..BITS).step_by(53)).chain(BITS - 588..BITS) {
-        let mut channel = pack(&clean);
-        channel[at / 8] ^= 0x80 >> (at % 8);
-        free += (same_judged(&channel) == ACCEPTED) as usize;
-    }
-    assert!((1..1400).contains(&free), "{free}");
 }
 
 /// Words that no table has, and SYNCs out of place, with Merging bits that keep every other rule: 27 at the word's first bit.

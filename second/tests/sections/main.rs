@@ -2,6 +2,8 @@
 //! state and the same bytes.
 
 mod judging;
+mod offences;
+mod partner;
 mod reading;
 mod writing;
 
