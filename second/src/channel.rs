@@ -1,6 +1,7 @@
 //! ECMA-130, clauses 18 and 19; document 01, Channel bits: whole Sections, written and read.
 
 mod annex_d;
+pub mod judging;
 pub mod merging;
 pub mod words;
 

@@ -1,4 +1,4 @@
-//! Document 01, Numbers that come back. Document 02, 6, withdraws number 8: it is given to nothing else.
+//! Document 01, Numbers that come back; document 02, 12, for 25 to 27. Document 02, 6, withdraws number 8: it is given to nothing else.
 
 #[derive(Clone, Copy, Debug, PartialEq, Eq)]
 pub enum Refusal {
@@ -16,6 +16,9 @@ pub enum Refusal {
     WrongQ { codeword: usize },
     WrongFiller,
     WrongPasses,
+    WrongRun { bit: usize },
+    WrongHeader { bit: usize },
+    WrongWord { bit: usize },
 }
 
 use Refusal::*;
@@ -38,13 +41,17 @@ impl Refusal {
             WrongQ { .. } => 14,
             WrongFiller => 15,
             WrongPasses => 22,
+            WrongRun { .. } => 25,
+            WrongHeader { .. } => 26,
+            WrongWord { .. } => 27,
         }
     }
 
-    /// The value that comes with 13 and 14; no other number has one.
+    /// The value that comes with 13 and 14, the number of a codeword, and with 25 to 27, a bit position; no other number has one.
     pub fn value(self) -> Option<usize> {
         match self {
             WrongP { codeword } | WrongQ { codeword } => Some(codeword),
+            WrongRun { bit } | WrongHeader { bit } | WrongWord { bit } => Some(bit),
             _ => None,
         }
     }
@@ -71,7 +78,7 @@ mod tests {
     }
 
     #[test]
-    fn numbers_differ_and_two_have_a_value() {
+    fn numbers_differ_and_five_have_a_value() {
         let all = [
             WrongIncoming,
             WrongOutgoing,
@@ -87,10 +94,13 @@ mod tests {
             WrongQ { codeword: 51 },
             WrongFiller,
             WrongPasses,
+            WrongRun { bit: 1 },
+            WrongHeader { bit: 2 },
+            WrongWord { bit: 3 },
         ];
         let numbers: Vec<u8> = all.iter().map(|r| r.number()).collect();
-        assert_eq!(numbers, [1, 2, 3, 4, 5, 7, 9, 10, 11, 12, 13, 14, 15, 22]);
+        assert_eq!(numbers, [1, 2, 3, 4, 5, 7, 9, 10, 11, 12, 13, 14, 15, 22, 25, 26, 27]);
         let values: Vec<usize> = all.iter().filter_map(|r| r.value()).collect();
-        assert_eq!(values, [85, 51]);
+        assert_eq!(values, [85, 51, 1, 2, 3]);
     }
 }

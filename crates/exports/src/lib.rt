@@ -7,6 +7,7 @@ mod frames;
 mod judging;
 mod remainders;
 mod repairing;
+mod section_judging;
 mod section_reading;
 mod section_writing;
 mod sector_salvage;

@@ -11,6 +11,7 @@ use Rattle.bits.specs.Bits.{number}
 use Rattle.words.specs.declared.Symbol.{Symbol}
 use Rattle.words.specs.declared.Symbol.the-variants.{Byte, Unknown}
 use Rattle.words.specs.Words.{byteOf, sync0, sync1}
+pub mod Fields
 pub mod Places
 pub mod Alone
 pub mod Lost

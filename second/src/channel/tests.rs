@@ -1,6 +1,7 @@
 //! Clause 19.
 
 mod choosing;
+mod judging;
 mod lost;
 mod reading;
 mod refusals;

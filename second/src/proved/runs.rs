@@ -1,5 +1,6 @@
 //! Runs of CIRC steps, and Sections.
 
+use super::{told, Told};
 use crate::channel::SectionWriter;
 
 extern "C" {
@@ -39,6 +40,7 @@ extern "C" {
         marks: *mut u8,
         marks_length: usize,
     ) -> u8;
+    fn road_judge_sections(channel: *const u8, length: usize, bit: *mut [u64; 1]) -> u8;
 }
 
 /// A run of steps from a fresh writer. Two bytes for each step say how much of the frames and of the buffer it is lent, and
@@ -95,4 +97,9 @@ pub fn read_section(channel: &[u8], bytes: &mut [u8], marks: &mut [u8]) -> u8 {
     let (marks, marks_length) = (marks.as_mut_ptr(), marks.len());
     let (channel, length) = (channel.as_ptr(), channel.len());
     unsafe { road_read_section(channel, length, bytes, bytes_length, marks, marks_length) }
+}
+
+/// With an offence comes its bit position.
+pub fn judge_sections(channel: &[u8]) -> Told<1> {
+    told(|bit| unsafe { road_judge_sections(channel.as_ptr(), channel.len(), bit) })
 }

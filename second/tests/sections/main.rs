@@ -1,6 +1,9 @@
 //! Proved Sections against this program: both sides from one state and from buffers that held (AA), the same answer, the same
 //! state and the same bytes.
 
+mod judging;
+mod offences;
+mod partner;
 mod reading;
 mod writing;
 

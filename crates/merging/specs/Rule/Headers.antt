@@ -16,14 +16,15 @@ starts-long [] bs t = omega arith
 starts-long (p ∷ ps) [] t = absurd t
 starts-long (p ∷ ps) (b ∷ bs) t = suc-le-suc (starts-long ps bs (and-right (eqb p b) (starts ps bs) t))
 
-starts-short : (bs : List ℕ) → length bs < 24 → starts header bs ≡ false
+-- fewer than 24 bits are no Sync Header
+pub starts-short : (bs : List ℕ) → length bs < 24 → starts header bs ≡ false
 starts-short bs h = go (starts header bs) refl
   where
     go : (t : Bool) → starts header bs ≡ t → t ≡ false
     go true e = absurd (omega (arith, starts-long header bs (subst T (sym e) tt)))
     go false e = refl
 
--- fewer than 24 bits have no Sync Header
+-- and have none
 pub headers-short : (bs : List ℕ) → length bs < 24 → headers bs ≡ 0
 unfolding headers
 headers-short [] h = refl

@@ -76,7 +76,7 @@ done-as-stream (c ∷ cs) s = by (isDone (writes s c .say)) refl (done-as-stream
     by false e h = h ∙ ap (λ (u : SectionWriter). sectionSteps u (parts rest)) (refused-stays s c e)
 
 -- the bytes of Sections are their stream
-steps-unpack : (ps : List Part) (s : SectionWriter) → unpack (outgoing (sectionSteps s ps)) ≡ streamOf s ps
+pub steps-unpack : (ps : List Part) (s : SectionWriter) → unpack (outgoing (sectionSteps s ps)) ≡ streamOf s ps
 unfolding unpack outgoing sectionSteps streamOf
 steps-unpack [] s = refl
 steps-unpack (p ∷ ps) s =

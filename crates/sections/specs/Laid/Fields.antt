@@ -5,24 +5,20 @@ use mathlib.Core.List.{List, [], _∷_, _++_}
 use Prim.Native.Nat.{ℕ, zero, suc, _+_, _*_, _≤_, _<_, _^_}
 use native.Mathlib.Nat.{not-suc-le-zero, le-of-suc-le-suc, mod-eq-of-lt}
 use native.Mathlib.Omega.{arith}
-use lib.ListN.{length, getD, take, drop, length-append, length-drop}
-use lib.Seq.{take-append-le, drop-append-le, drop-append-add, take-length}
+use lib.ListN.{length, getD, take, drop, length-append}
+use lib.Seq.{drop-append-add, take-length}
 use Rattle.bits.specs.Bits.{bitsOf, number}
 use Rattle.bits.specs.Bits.Numbers.{length-bits, number-bits}
 use Rattle.merging.specs.Chosen.{SoFar, dsvAfter, beforeWord, withWord}
 use Rattle.merging.specs.Rule.{allowed}
 use Rattle.section_reader.specs.Reading.{fieldAt}
+use Rattle.section_reader.specs.Reading.Fields.{field-keep}
 use Rattle.section_writer.specs.Section.{withWords}
 use Rattle.merging.specs.Chosen.ThreeBits.{word-three}
 use Rattle.sections.specs.Grown.{Grown}
 use Rattle.sections.specs.Grown.Section.{grown-word, grown-words}
 
 -- ---- fields of what is written
-
-field-keep : (a b : List ℕ) (p n : ℕ) → p + n ≤ length a → fieldAt (a ++ b) p n ≡ fieldAt a p n
-field-keep a b p n h =
-    ap (λ (l : List ℕ). number 0 (take n l)) (drop-append-le p a b (omega arith))
-    ∙ ap (number 0) (take-append-le n (drop p a) b (omega (arith, length-drop p a)))
 
 -- a field stays as it was when more is written after it
 pub keep : {k : ℕ} {w w′ : SoFar} (g : Grown k w w′) (p n : ℕ) → p + n ≤ length (w .bits) → fieldAt (w′ .bits) p n ≡ fieldAt (w .bits) p n

@@ -36,7 +36,8 @@ one-section old s p o =
     (atStart [] s)
     (record { own = state-first; all = subst Opens (sym (append-nil old)) o }) .all
 
-all-sections : (old : List ℕ) (s : SectionWriter) (ps : List Part) → Opens old → Opens (old ++ streamOf s ps)
+-- and after all
+pub all-sections : (old : List ℕ) (s : SectionWriter) (ps : List Part) → Opens old → Opens (old ++ streamOf s ps)
 unfolding streamOf
 all-sections old s [] o = subst Opens (sym (append-nil old)) o
 all-sections old s (p ∷ ps) o =
@@ -61,7 +62,7 @@ one-less : (i c : ℕ) → c < 588 → i + (588 - c) ≡ suc i + (588 - suc c)
 one-less i c h = omega arith
 
 -- a Sync Header begins at bit i exactly if the count says so
-starts-at : (bs : List ℕ) (c i : ℕ) → T (placed c bs) → c < 588 → i < length bs → starts header (drop i bs) ≡ eqb ((i + (588 - c)) % 588) 0
+pub starts-at : (bs : List ℕ) (c i : ℕ) → T (placed c bs) → c < 588 → i < length bs → starts header (drop i bs) ≡ eqb ((i + (588 - c)) % 588) 0
 unfolding placed
 starts-at [] c i t h l = absurd (not-suc-le-zero l)
 starts-at (b ∷ bs) zero zero t h l = true-of (starts header (b ∷ bs)) (and-left (starts header (b ∷ bs)) (placed 587 bs) t)

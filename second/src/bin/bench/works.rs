@@ -175,6 +175,10 @@ fn sections() -> Vec<Work> {
         let answer = proved::write_section(&mut state, black_box(&frames), &control, &mut out);
         assert_eq!((answer, state.count), (0, 1));
     };
+    let judged = channel.clone();
+    let judge = move || {
+        assert_eq!(proved::judge_sections(black_box(&judged)).number, 0);
+    };
     let (mut bytes, mut marks) = (vec![0; READ_BYTES], vec![0; READ_BYTES]);
     let read = move || {
         assert_eq!(proved::read_section(black_box(&channel), &mut bytes, &mut marks), 0);
@@ -182,5 +186,6 @@ fn sections() -> Vec<Work> {
     vec![
         Work::new("write a Section", Some(40.0), write),
         Work::new("read a Section", Some(10.0), read),
+        Work::new("judge a Section", Some(6.0), judge),
     ]
 }
