@@ -1,4 +1,4 @@
-//! Document 01, Numbers that come back. Document 02, 6, withdraws number 8: it is given to nothing else.
+//! Document 01, Numbers that come back, with those of document 02. Its request 6 withdraws number 8: it is given to nothing else.
 
 #[derive(Clone, Copy, Debug, PartialEq, Eq)]
 pub enum Refusal {
@@ -15,6 +15,8 @@ pub enum Refusal {
     WrongP { codeword: usize },
     WrongQ { codeword: usize },
     WrongFiller,
+    UnknownPlace,
+    NoSync,
 }
 
 use Refusal::*;
@@ -36,6 +38,8 @@ impl Refusal {
             WrongP { .. } => 13,
             WrongQ { .. } => 14,
             WrongFiller => 15,
+            UnknownPlace => 23,
+            NoSync => 24,
         }
     }
 
@@ -84,9 +88,11 @@ mod tests {
             WrongP { codeword: 85 },
             WrongQ { codeword: 51 },
             WrongFiller,
+            UnknownPlace,
+            NoSync,
         ];
         let numbers: Vec<u8> = all.iter().map(|r| r.number()).collect();
-        assert_eq!(numbers, [1, 2, 3, 4, 5, 7, 9, 10, 11, 12, 13, 14, 15]);
+        assert_eq!(numbers, [1, 2, 3, 4, 5, 7, 9, 10, 11, 12, 13, 14, 15, 23, 24]);
         let values: Vec<usize> = all.iter().filter_map(|r| r.value()).collect();
         assert_eq!(values, [85, 51]);
     }
