@@ -47,8 +47,9 @@ fn put_aligned(sectors: &[u8], n: usize, out: &mut [u8])
     requires { ⌜ (isRow 2352 16 (length (now sectors)) ≡ true) × (n ≤ 5) × (length (now out) ≡ 24 * framesFor n (now sectors)) ⌝ }
     ensures { λ _. ⌜ now (out .exit) ≡ aligned n (now (sectors .entry)) ⌝ }
 {
-    outcome::clear(out);
     let start = 4 * n;
     let end = start + sectors.len();
+    outcome::clear(&mut out[0..start]);
     f1_frames::exchange_pairs(sectors, &mut out[start..end]);
+    outcome::clear(&mut out[end..]);
 }

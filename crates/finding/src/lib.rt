@@ -98,10 +98,10 @@ fn put_sectors(frames: &[u8], f: usize, n: usize, out: &mut [u8]) -> usize
     ensures { λ r. ⌜ (r ≡ wholeFrom (place f n) (now (frames .entry))) × (now (out .exit) ≡ sectorsFrom (place f n) (now (frames .entry))) ⌝ }
 {
     outcome::clear(out);
-    let p = 24 * f + 4 * n;
-    let count = (frames.len() - p) / 2352;
+    let first = 24 * f + 4 * n;
+    let count = (frames.len() - first) / 2352;
     let bytes = 2352 * count;
-    let end = p + bytes;
-    f1_frames::exchange_pairs(&frames[p..end], &mut out[0..bytes]);
+    let end = first + bytes;
+    f1_frames::exchange_pairs(&frames[first..end], &mut out[0..bytes]);
     count
 }

@@ -9,14 +9,14 @@ use Rattle.finding.proofs.put_sectors.Tie as tie
 clear-requires : tie.Need-clear-requires
 clear-requires c κs = search needs
 
-mul-p : tie.Need-mul-p
-mul-p c = search needs
+mul-first : tie.Need-mul-first
+mul-first c = search needs
 
-mul-p-2 : tie.Need-mul-p-2
-mul-p-2 c = search needs
+mul-first-2 : tie.Need-mul-first-2
+mul-first-2 c = search needs
 
-add-p : tie.Need-add-p
-add-p c = search needs
+add-first : tie.Need-add-first
+add-first c = search needs
 
 sub-count : tie.Need-sub-count
 sub-count c = search needs
@@ -54,7 +54,7 @@ same-length c = search needs
 returns : tie.Need-returns
 returns c =
     let exchanging = c .before .before in
-    let clearing = exchanging .before .before .before .before in
+    let clearing = exchanging .before .before .before .before .before in
     let start = clearing .before .before .before .before in (
       refl,
       laid-out (start .args .frames .now) (start .args .out .now) (clearing .clear .last .0) (exchanging .exchange-pairs .last .1 .0) (start .args .f) (start .args .n)
@@ -67,9 +67,9 @@ put-sectors-spec =
     tie.close
     (tie.spec
     clear-requires
-    mul-p
-    mul-p-2
-    add-p
+    mul-first
+    mul-first-2
+    add-first
     sub-count
     mul-bytes
     add-end
