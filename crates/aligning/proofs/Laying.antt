@@ -42,7 +42,8 @@ module _ (n : ℕ) (s old a b z : List ℕ) (r : Bool) where
       → z ≡ replicate (length (lent (4 * n + length s) (length second) second)) 0
       → putMid (4 * n + length s) (length second - (4 * n + length s)) second z ≡ aligned n s
   laid-in w h ea c ez =
-      let is-a : a ≡ zeros (4 * n) = cleared-part 0 (4 * n) old a (omega arith) (omega arith) ea in
+      let all-of-it : 4 * n - 0 ≡ 4 * n = omega arith in
+      let is-a : a ≡ zeros (4 * n) = cleared-part 0 (4 * n) old a (omega arith) (omega arith) ea ∙ ap zeros all-of-it in
       let long-a : length a ≡ 4 * n = ap length is-a ∙ length-zeros (4 * n) in
       let is-first : first ≡ a ++ drop (4 * n) old = part-back 0 (4 * n) old a (omega arith) in
       let long-first : length first ≡ length old = ap length is-first ∙ length-append a (drop (4 * n) old) ∙ omega (arith, length-drop (4 * n) old) in
@@ -51,12 +52,12 @@ module _ (n : ℕ) (s old a b z : List ℕ) (r : Bool) where
       let long-b : length b ≡ length s = ap length is-b ∙ length-exchanged s in
       let front : take (4 * n) first ≡ a = ap (take (4 * n)) is-first ∙ take-at a (drop (4 * n) old) (4 * n) long-a in
       let is-second : second ≡ (a ++ b) ++ drop (4 * n + length s) first =
-          part-back (4 * n) (4 * n + length s) first b (omega arith)
-          ∙ ap (λ (t : List ℕ). t ++ (b ++ drop (4 * n + length s) first)) front
-          ∙ sym (append-assoc a b (drop (4 * n + length s) first)) in
+      part-back (4 * n) (4 * n + length s) first b (omega arith)
+      ∙ ap (λ (t : List ℕ). t ++ (b ++ drop (4 * n + length s) first)) front
+      ∙ sym (append-assoc a b (drop (4 * n + length s) first)) in
       let both : length (a ++ b) ≡ 4 * n + length s = length-append a b ∙ omega arith in
       let long-second : length second ≡ length old =
-          ap length is-second ∙ length-append (a ++ b) (drop (4 * n + length s) first) ∙ omega (arith, length-drop (4 * n + length s) first) in
+      ap length is-second ∙ length-append (a ++ b) (drop (4 * n + length s) first) ∙ omega (arith, length-drop (4 * n + length s) first) in
       let is-z : z ≡ zeros (length second - (4 * n + length s)) = cleared-part (4 * n + length s) (length second) second z (omega arith) (omega arith) ez in
       let so-many : length second - (4 * n + length s) ≡ behind n s = omega arith in
       end-back (4 * n + length s) second z (omega arith)

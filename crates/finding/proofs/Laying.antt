@@ -39,18 +39,18 @@ module _ (frames old clear part : List ℕ) (f n : ℕ) (r : Bool) where
       let width : 24 * f + 4 * n + bytesOut f n frames - (24 * f + 4 * n) ≡ bytesOut f n frames = omega arith in
       let in-is : lentIn f n frames ≡ take (bytesOut f n frames) (drop (place f n) frames) = ap (λ (w : ℕ). take w (drop (24 * f + 4 * n) frames)) width in
       let in-long : length (lentIn f n frames) ≡ bytesOut f n frames =
-          ap length in-is ∙ length-take-le (bytesOut f n frames) (drop (place f n) frames) (omega (arith, length-drop (place f n) frames)) in
+      ap length in-is ∙ length-take-le (bytesOut f n frames) (drop (place f n) frames) (omega (arith, length-drop (place f n) frames)) in
       let out-long : length (lentOut (bytesOut f n frames) clear) ≡ bytesOut f n frames - 0 =
-          length-take-le (bytesOut f n frames - 0) (drop 0 clear) (omega arith) in
+      length-take-le (bytesOut f n frames - 0) (drop 0 clear) (omega arith) in
       let made : part ≡ exchanged (lentIn f n frames) =
-          exchanged-whole (lentIn f n frames) (lentOut (bytesOut f n frames) clear) r part c (omega arith) (omega arith) in
+      exchanged-whole (lentIn f n frames) (lentOut (bytesOut f n frames) clear) r part c (omega arith) (omega arith) in
       let pairs : 2 * (1176 * wholeFrom (place f n) frames) ≡ bytesOut f n frames = omega arith in
       let sectors : take (bytesOut f n frames) (drop (place f n) (bytesIn frames)) ≡ exchanged (take (bytesOut f n frames) (drop (place f n) frames)) =
-          ap (λ (w : ℕ). take w (drop (place f n) (bytesIn frames))) (sym pairs)
-          ∙ part-in-order frames f n (1176 * wholeFrom (place f n) frames) h (omega arith)
-          ∙ ap (λ (w : ℕ). exchanged (take w (drop (place f n) frames))) pairs in
+      ap (λ (w : ℕ). take w (drop (place f n) (bytesIn frames))) (sym pairs)
+      ∙ part-in-order frames f n (1176 * wholeFrom (place f n) frames) h (omega arith)
+      ∙ ap (λ (w : ℕ). exchanged (take w (drop (place f n) frames))) pairs in
       let back : drop (bytesOut f n frames) clear ≡ zeros (room - bytesOut f n frames) =
-          ap (drop (bytesOut f n frames)) blank ∙ drop-zeros (bytesOut f n frames) (length old)
-          ∙ ap (λ (w : ℕ). zeros (w - bytesOut f n frames)) (o ∙ sym room-is) in
+      ap (drop (bytesOut f n frames)) blank ∙ drop-zeros (bytesOut f n frames) (length old)
+      ∙ ap (λ (w : ℕ). zeros (w - bytesOut f n frames)) (o ∙ sym room-is) in
       part-back 0 (bytesOut f n frames) clear part (omega arith)
       ∙ ap₂ _++_ (made ∙ ap exchanged in-is ∙ sym sectors) back

@@ -1,74 +1,67 @@
+-- `aligning::put_aligned` meets its contract: zeros, the Sectors with their pairs exchanged and zeros are laid one behind the other (`Laying`).
+-- Assumes nothing.
 use borrow.Author.Needs.{needs}
+use lib.ListN.{length}
+use Rattle.alignment.specs.Row.Counted.{row-whole}
+use Rattle.aligning.proofs.Laying.{laid-in}
 use Rattle.aligning.proofs.put_aligned.Statement.{statement}
 use Rattle.aligning.proofs.put_aligned.Tie as tie
-use Rattle.aligning.proofs.put_aligned.Reads as reads
-use Rattle.aligning.proofs.put_aligned.Lts as lts
-use Rattle.f1_frames.proofs.exchange_pairs.Reads as exchange-pairs-reads
-use Rattle.outcome.proofs.clear.Reads as clear-reads
 
--- src/lib.rt:50:17
 mul-start : tie.Need-mul-start
 mul-start c = search needs
 
--- src/lib.rt:51:15
 add-end : tie.Need-add-end
 add-end c = search needs
 
--- src/lib.rt:52:20
 sub-clear : tie.Need-sub-clear
 sub-clear c = search needs
 
--- src/lib.rt:52:20
 part-clear-start : tie.Need-part-clear-start
 part-clear-start c = search needs
 
--- src/lib.rt:52:20
 part-clear-end : tie.Need-part-clear-end
 part-clear-end c = search needs
 
--- src/lib.rt:52:5
 clear-requires : tie.Need-clear-requires
 clear-requires c κs = search needs
 
--- src/lib.rt:53:40
 sub-exchange-pairs : tie.Need-sub-exchange-pairs
 sub-exchange-pairs c = search needs
 
--- src/lib.rt:53:40
 part-exchange-pairs-start : tie.Need-part-exchange-pairs-start
 part-exchange-pairs-start c = search needs
 
--- src/lib.rt:53:40
 part-exchange-pairs-end : tie.Need-part-exchange-pairs-end
 part-exchange-pairs-end c = search needs
 
--- src/lib.rt:53:5
 exchange-pairs-requires : tie.Need-exchange-pairs-requires
 exchange-pairs-requires c κs = search needs
 
--- src/lib.rt:54:20
 sub-clear-2 : tie.Need-sub-clear-2
 sub-clear-2 c = search needs
 
--- src/lib.rt:54:20
 part-clear-start-2 : tie.Need-part-clear-start-2
 part-clear-start-2 c = search needs
 
--- src/lib.rt:54:20
 part-clear-end-2 : tie.Need-part-clear-end-2
 part-clear-end-2 c = search needs
 
--- src/lib.rt:54:5
 clear-requires-2 : tie.Need-clear-requires-2
 clear-requires-2 c κs = search needs
 
--- src/lib.rt:46:1
 same-length : tie.Need-same-length
 same-length c = search needs
 
--- src/lib.rt:46:1
 returns : tie.Need-returns
-returns c = ?
+returns c =
+    let behind = c .before .before in
+    let exchanging = behind .before .before .before .before in
+    let front = exchanging .before .before .before .before in
+    let start = front .before .before .before .before in
+    let sectors = start .args .sectors .now in
+    laid-in (start .args .n) sectors (start .args .out .now) (front .clear .last .0) (exchanging .exchange-pairs .last .1 .0) (behind .clear2 .last .0)
+    (exchanging .exchange-pairs .result) (row-whole 2352 16 (length sectors) (start .pre .0)) (start .pre .2) (front .clear .ensures)
+    (exchanging .exchange-pairs .ensures) (behind .clear2 .ensures)
 
 pub put-aligned-spec : {M : Type 1} → statement M
 put-aligned-spec =

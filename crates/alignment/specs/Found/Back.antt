@@ -38,11 +38,11 @@ unfolding syncStands
 none-in-filling n m s l e =
     let stands : take 12 (drop (place 0 m) (bytesIn (aligned n s))) ≡ sync = same-equal (take 12 (drop (place 0 m) (bytesIn (aligned n s)))) sync e in
     let second : getD (bytesIn (aligned n s)) (place 0 m + 1) 0 ≡ 0xFF =
-        sym (getD-drop (place 0 m) (bytesIn (aligned n s)) 1 0)
-        ∙ sym (getD-take 12 (drop (place 0 m) (bytesIn (aligned n s))) 1 0 (omega arith))
-        ∙ ap (λ (w : List ℕ). getD w 1 0) stands in
+    sym (getD-drop (place 0 m) (bytesIn (aligned n s)) 1 0)
+    ∙ sym (getD-take 12 (drop (place 0 m) (bytesIn (aligned n s))) 1 0 (omega arith))
+    ∙ ap (λ (w : List ℕ). getD w 1 0) stands in
     let zero : getD (bytesIn (aligned n s)) (place 0 m + 1) 0 ≡ 0 =
-        ap (λ (w : List ℕ). getD w (place 0 m + 1) 0) (bytes-back n s) ∙ zero-before n s (place 0 m + 1) (omega arith) in
+    ap (λ (w : List ℕ). getD w (place 0 m + 1) 0) (bytes-back n s) ∙ zero-before n s (place 0 m + 1) (omega arith) in
     omega (arith, second, zero)
 
 module _ (n k : ℕ) (s : List ℕ) (five : n ≤ 5) (some : 1 ≤ k) (sixteen : k ≤ 16) (long : length s ≡ 2352 * k) (first : take 12 s ≡ sync) where

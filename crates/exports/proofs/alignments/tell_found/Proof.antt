@@ -18,7 +18,7 @@ enum-told-3 : tie.Need-enum-told-3
 enum-told-3 c = search needs
 
 returns : tie.Need-returns
-returns c = rw (c .before .before .before .before .a .given .1) (record { has-number = refl; has-values = refl })
+returns c = rw (c .before .before .a .given .1) (record { has-number = refl; has-values = refl })
 
 returns-2 : tie.Need-returns-2
 returns-2 c = search needs
