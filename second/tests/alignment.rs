@@ -108,8 +108,11 @@ fn sync_at_the_end() {
         for place in bytes.saturating_sub(60)..bytes {
             let (answer, out) = same_found(&with_sync(frames, place), ROOM);
             let there = place % 4 == 0 && place + 12 <= bytes;
-            let expected =
-                if there { at(place / 24, place % 24 / 4, 0) } else { Told { number: 24, values: [0; 3] } };
+            let expected = if there {
+                at(place / 24, place % 24 / 4, 0)
+            } else {
+                Told { number: 24, values: [0; 3] }
+            };
             assert_eq!(answer, expected);
             assert!(out == vec![0; ROOM]);
         }
@@ -149,10 +152,9 @@ fn the_first_place() {
         let first = (0..row.len()).step_by(4).find(|&place| row[place..].starts_with(&SYNC));
         let (answer, _) = same_found(&exchange(&row), ROOM);
         match first {
-            Some(place) => assert_eq!(
-                answer,
-                at(place / 24, place % 24 / 4, (row.len() - place) / LENGTH)
-            ),
+            Some(place) => {
+                assert_eq!(answer, at(place / 24, place % 24 / 4, (row.len() - place) / LENGTH))
+            }
             None => assert_eq!(answer.number, 24),
         }
     }
