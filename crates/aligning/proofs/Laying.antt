@@ -1,13 +1,13 @@
 -- Zeros, the Sectors with their pairs exchanged, and zeros, each laid into its part of the buffer, are the Sectors aligned.
 -- Assumes nothing.
-use mathlib.Core.Path.{_≡_, refl, sym, ap, ap₂, _∙_}
+use mathlib.Core.Path.{_≡_, sym, ap, ap₂, _∙_}
 use mathlib.Core.Bool.{Bool, cond}
 use mathlib.Core.List.{List, _++_, append-assoc}
 use Prim.Native.Nat.{ℕ, _+_, _-_, _*_, _/_, _%_, _≤_}
 use native.Mathlib.Omega.{arith}
 use borrow.Rule.Slice.PartMut.{putMid}
 use lib.ListN.{length, take, drop, replicate, length-append, length-drop}
-use lib.Seq.{length-take-le, take-at, drop-at}
+use lib.Seq.{length-take-le, take-at}
 use Rattle.outcome.specs.Buffer.Part.{part-back, end-back}
 use Rattle.sector.specs.Layout.{zeros}
 use Rattle.sector.specs.Layout.Zeros.{length-zeros}

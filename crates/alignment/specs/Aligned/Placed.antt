@@ -21,7 +21,7 @@ frames-at-nought k s h = omega arith
 pub frames-else : (n k : ℕ) (s : List ℕ) → length s ≡ 2352 * k → 0 < n → n ≤ 5 → framesFor n s ≡ 98 * k + 1
 frames-else n k s h l m = omega arith
 
-zero-at : (m i : ℕ) → i < m → getD (zeros m) i 0 ≡ 0
+pub zero-at : (m i : ℕ) → i < m → getD (zeros m) i 0 ≡ 0
 unfolding zeros
 zero-at m i h = getD-replicate m i 0 0 h
 

@@ -1,21 +1,19 @@
 -- What `align` writes `find` gives back, at frame 0 and that n: once over n.
 -- Assumes nothing.
-use mathlib.Core.Path.{_≡_, refl, sym, ap, ap₂, subst, _∙_}
+use mathlib.Core.Path.{_≡_, refl, sym, ap, ap₂, _∙_}
 use mathlib.Core.Bool.{true}
 use mathlib.Core.List.{List, [], _∷_, _++_}
-use Prim.Native.Nat.{ℕ, _+_, _-_, _*_, _/_, _%_, _≤_, _<_}
+use Prim.Native.Nat.{ℕ, _+_, _-_, _*_, _/_, _≤_, _<_}
 use native.Mathlib.Omega.{arith}
 use borrow.Author.Tests.{lt-ltb}
 use lib.Dec.{ltb}
 use lib.ListN.{length, getD, take, drop}
 use lib.Seq.{take-append-le, getD-take, getD-drop}
-use Rattle.outcome.specs.First.{First}
 use Rattle.outcome.specs.First.Found.{found-first}
 use Rattle.outcome.specs.Say.{done, Outcome, outcome}
-use Rattle.lists.specs.Same.{same}
 use Rattle.lists.specs.Same.Equal.{equal-same, same-equal}
 use Rattle.sector.specs.Layout.{sync, zeros}
-use Rattle.f1_frames.specs.Frames.{bytesOf, cut, join}
+use Rattle.f1_frames.specs.Frames.{bytesOf, join}
 use Rattle.f1_frames.specs.Frames.Placed.{length-of, f1-of}
 use Rattle.alignment.specs.Row.{isRow}
 use Rattle.alignment.specs.Row.Counted.{is-row}
@@ -23,7 +21,7 @@ use Rattle.alignment.specs.Aligned.{framesFor, filled, aligned, aligning
 use Rattle.alignment.specs.Aligned.Ways as written
 use Rattle.alignment.specs.Aligned.Placed.{behind, length-aligned, filled-back, from-first, sectors-there, zero-before}
 use Rattle.alignment.specs.Aligned.AtNought.{at-nought}
-use Rattle.alignment.specs.Found.{room, bytesIn, place, syncStands, nOf, frameOf, wholeFrom, sectorsFrom, placed, finding}
+use Rattle.alignment.specs.Found.{room, bytesIn, place, syncStands, nOf, frameOf, wholeFrom, sectorsFrom, finding}
 use Rattle.alignment.specs.Found.Ways.{on-found}
 
 bytes-back : (n : ℕ) (s : List ℕ) → bytesIn (aligned n s) ≡ filled n s

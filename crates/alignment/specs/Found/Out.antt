@@ -1,22 +1,19 @@
 -- The Sectors come out byte for byte, as many as are whole, with zeros behind.
 -- Assumes nothing.
 use mathlib.Core.Path.{_≡_, sym, ap, _∙_}
-use mathlib.Core.List.{List, _++_}
+use mathlib.Core.List.{List}
 use Prim.Native.Nat.{ℕ, _+_, _-_, _*_, _/_, _%_, _≤_, _<_}
 use native.Mathlib.Omega.{arith}
-use lib.ListN.{length, getD, take, drop, length-append, length-drop, getD-replicate, List·getD-append}
+use lib.ListN.{length, getD, take, drop, length-append, length-drop, List·getD-append}
 use lib.Seq.{length-take-le, getD-take, getD-drop, getD-append-add}
 use Rattle.outcome.specs.Table.Entries.{tabulated-at}
 use Rattle.sector.specs.Layout.{zeros}
 use Rattle.sector.specs.Layout.Zeros.{length-zeros}
 use Rattle.f1_frames.specs.Frames.{byteIn, bytesOf}
+use Rattle.alignment.specs.Aligned.Placed.{zero-at}
 use Rattle.alignment.specs.Found.{room, bytesIn, wholeFrom, sectorsFrom}
 use Rattle.alignment.specs.Found.Ways.{room-is}
 use Rattle.alignment.specs.Found.First.{length-bytes}
-
-zero-at : (m i : ℕ) → i < m → getD (zeros m) i 0 ≡ 0
-unfolding zeros
-zero-at m i h = getD-replicate m i 0 0 h
 
 module _ (p : ℕ) (frames : List ℕ) (whole : length frames % 24 ≡ 0) (few : length frames / 24 ≤ 2730) (inside : p ≤ length frames) where
   -- so many are whole, and not one more

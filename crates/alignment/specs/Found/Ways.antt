@@ -2,14 +2,13 @@
 -- Assumes nothing.
 use mathlib.Core.Path.{_≡_, refl, sym}
 use mathlib.Core.Bool.{true, false}
-use mathlib.Core.List.{List, [], _∷_}
+use mathlib.Core.List.{List, []}
 use Prim.Native.Nat.{ℕ, _/_, _≤_, _<_}
 use borrow.Author.Tests.{eq-eqb, ne-eqb, lt-ltb, le-ltb}
 use lib.ListN.{length, replicate}
-use Rattle.outcome.specs.Say.{done, refused, cleared, outcome}
-use Rattle.sector.specs.Layout.{zeros}
+use Rattle.outcome.specs.Say.{refused, cleared, outcome}
 use Rattle.alignment.specs.Row.{isRow}
-use Rattle.alignment.specs.Found.{room, place, nOf, frameOf, wholeFrom, sectorsFrom, placed, finding}
+use Rattle.alignment.specs.Found.{room, place, nOf, frameOf, sectorsFrom, placed, finding}
 
 pub room-is : room ≡ 63504
 unfolding room

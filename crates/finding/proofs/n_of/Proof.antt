@@ -2,7 +2,6 @@
 -- Assumes nothing.
 use Prim.Native.Nat.{_-_}
 use mathlib.Core.Path.{sym, _∙_}
-use native.Mathlib.Omega.{arith}
 use borrow.Author.Needs.{needs}
 use Rattle.alignment.specs.Found.{syncStands, nOf}
 use Rattle.finding.proofs.Search.{Passed, passed-none, passed-more, passed-found, passed-all, refuted}
