@@ -33,10 +33,10 @@ alignSay sectors n old =
     (done [])))
 
 -- a refusal touches nothing: at 1 and 23 no outgoing length is right, and at 2 the one at hand isn't
-abbrev pub kept : Say → List ℕ → List ℕ → List ℕ
-kept (done vs) new old = new
-kept (refused n vs) new old = old
+abbrev pub leavesUntouched : Say → List ℕ → List ℕ → List ℕ
+leavesUntouched (done vs) new old = new
+leavesUntouched (refused n vs) new old = old
 
 -- what `align` answers and leaves, of the Sectors, of n and of what the outgoing buffer held
 unfoldable pub aligning : List ℕ → ℕ → List ℕ → Outcome
-aligning sectors n old = outcome (alignSay sectors n old) (kept (alignSay sectors n old) (aligned n sectors) old)
+aligning sectors n old = outcome (alignSay sectors n old) (leavesUntouched (alignSay sectors n old) (aligned n sectors) old)

@@ -49,15 +49,15 @@ unfoldable pub sectorsFrom : ℕ → List ℕ → List ℕ
 sectorsFrom p frames = take (2352 * wholeFrom p frames) (drop p (bytesIn frames)) ++ zeros (room - 2352 * wholeFrom p frames)
 
 -- what comes back: the place, and the number of whole Sectors
-abbrev pub placed : List ℕ → ℕ → ℕ → Say
-placed frames f n = done (f ∷ n ∷ wholeFrom (place f n) frames ∷ [])
+abbrev pub foundAt : List ℕ → ℕ → ℕ → Say
+foundAt frames f n = done (f ∷ n ∷ wholeFrom (place f n) frames ∷ [])
 
 -- document 02's refusals in their order: 1, 2, 24
 abbrev pub findSay : List ℕ → List ℕ → Say
 findSay frames old =
     oneThenTwo (isRow 24 2730 (length frames)) (eqb (length old) room)
     (demand (ltb (frameOf frames) (length frames / 24)) 24
-    (placed frames (frameOf frames) (nOf frames (frameOf frames))))
+    (foundAt frames (frameOf frames) (nOf frames (frameOf frames))))
 
 -- what `find` answers and leaves, of the frames and of what the outgoing buffer held
 unfoldable pub finding : List ℕ → List ℕ → Outcome
