@@ -1,4 +1,4 @@
-//! Document 01, Numbers that come back; document 02, 12, for 25 to 27. Document 02, 6, withdraws number 8: it is given to nothing else.
+//! Document 01, Numbers that come back, with those of document 02. Its request 6 withdraws number 8: it is given to nothing else.
 
 #[derive(Clone, Copy, Debug, PartialEq, Eq)]
 pub enum Refusal {
@@ -16,6 +16,8 @@ pub enum Refusal {
     WrongQ { codeword: usize },
     WrongFiller,
     WrongPasses,
+    UnknownPlace,
+    NoSync,
     WrongRun { bit: usize },
     WrongHeader { bit: usize },
     WrongWord { bit: usize },
@@ -41,6 +43,8 @@ impl Refusal {
             WrongQ { .. } => 14,
             WrongFiller => 15,
             WrongPasses => 22,
+            UnknownPlace => 23,
+            NoSync => 24,
             WrongRun { .. } => 25,
             WrongHeader { .. } => 26,
             WrongWord { .. } => 27,
@@ -94,12 +98,14 @@ mod tests {
             WrongQ { codeword: 51 },
             WrongFiller,
             WrongPasses,
+            UnknownPlace,
+            NoSync,
             WrongRun { bit: 1 },
             WrongHeader { bit: 2 },
             WrongWord { bit: 3 },
         ];
         let numbers: Vec<u8> = all.iter().map(|r| r.number()).collect();
-        assert_eq!(numbers, [1, 2, 3, 4, 5, 7, 9, 10, 11, 12, 13, 14, 15, 22, 25, 26, 27]);
+        assert_eq!(numbers, [1, 2, 3, 4, 5, 7, 9, 10, 11, 12, 13, 14, 15, 22, 23, 24, 25, 26, 27]);
         let values: Vec<usize> = all.iter().filter_map(|r| r.value()).collect();
         assert_eq!(values, [85, 51, 1, 2, 3]);
     }

@@ -22,9 +22,9 @@ module _ {x y : ℕ} {v w : List ℕ} where
   pub said-one : (n : ℕ) (o : Say) → Told n (λ say. say ≡ o) x v → Told n (λ say. say ≡ o) y w → (x ≡ y) × (v ≡ w)
   said-one n o p q = let same = told-one {Same = n ≡ n} (λ a b e f. (e ∙ sym f, refl)) p q in (same .0, same .1)
 
-  -- scrambling, cutting, joining
-  pub left-one : (o : Outcome) (s t : List ℕ) → Told 0 (λ say. outcome say s ≡ o) x v → Told 0 (λ say. outcome say t ≡ o) y w → (x ≡ y) × (v ≡ w) × (s ≡ t)
-  left-one o s t = told-one (λ a b e f. (ap (λ (z : Outcome). z .say) (e ∙ sym f), ap (λ (z : Outcome). z .out) (e ∙ sym f)))
+  -- scrambling, cutting, joining, aligning, finding
+  pub left-one : (n : ℕ) (o : Outcome) (s t : List ℕ) → Told n (λ say. outcome say s ≡ o) x v → Told n (λ say. outcome say t ≡ o) y w → (x ≡ y) × (v ≡ w) × (s ≡ t)
+  left-one n o s t = told-one (λ a b e f. (ap (λ (z : Outcome). z .say) (e ∙ sym f), ap (λ (z : Outcome). z .out) (e ∙ sym f)))
 
   -- writing a Sector
   pub written-one : (mode : ℕ) (time : HeaderTime) (user old s t : List ℕ) → Told 0 (λ say. Writes mode time user old say s) x v

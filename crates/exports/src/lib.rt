@@ -1,4 +1,5 @@
 // What programs in other languages call: each function hands over to one of the road and says the same.
+mod alignments;
 mod batches;
 mod circ_running;
 mod codewords;

@@ -3,7 +3,7 @@
 use mathlib.Core.Path.{_≡_, sym, ap, subst, _∙_}
 use mathlib.Core.Bool.{Bool, cond}
 use mathlib.Core.List.{List}
-use Prim.Native.Nat.{ℕ, _+_, _-_, _*_, _<_}
+use Prim.Native.Nat.{ℕ, _+_, _-_, _*_, _/_, _%_, _<_}
 use native.Mathlib.Omega.{arith}
 use borrow.Rule.Slice.PartMut.{putMid}
 use lib.Dec.{eqb}
@@ -37,15 +37,15 @@ lent-frame : (i : ℕ) (l : List ℕ) → take (24 * i + 24 - 24 * i) (drop (24 
 lent-frame i l =
     let width : 24 * i + 24 - 24 * i ≡ 24 = omega arith in ap (λ (n : ℕ). take n (drop (24 * i) l)) width
 
-frame-exchanged : (s : List ℕ) (i : ℕ) → length s ≡ 2352 → i < 98 → exchanged (frame i s) ≡ frame i (exchanged s)
-frame-exchanged s i h l = sym (frame-f1 98 s i h l) ∙ ap (frame i) (f1-exchanged 98 s h)
+frame-exchanged : (m : ℕ) (s : List ℕ) (i : ℕ) → length s ≡ 24 * m → i < m → exchanged (frame i s) ≡ frame i (exchanged s)
+frame-exchanged m s i h l = sym (frame-f1 m s i h l) ∙ ap (frame i) (f1-exchanged m s h)
 
 module _ (d s out part made : List ℕ) (i : ℕ) (r : Bool) where
   abbrev lent : List ℕ → List ℕ
   lent l = take (24 * i + 24 - 24 * i) (drop (24 * i) l)
 
   -- a frame that is made of the lent bytes, and then copied into the lent part of the buffer
-  pub frame-more : Filling d (exchanged s) (24 * i) out → length s ≡ 2352 → i < 98 → made ≡ exchanged (lent s)
+  pub frame-more : Filling d (exchanged s) (24 * i) out → length s % 24 ≡ 0 → i < length s / 24 → made ≡ exchanged (lent s)
       → (r ≡ eqb (length made) (length (lent out))) × (part ≡ cond r made (lent out))
       → Filling d (exchanged s) (24 * (i + 1)) (putMid (24 * i) (24 * i + 24 - 24 * i) out part)
   frame-more f h l m c =
@@ -58,4 +58,4 @@ module _ (d s out part made : List ℕ) (i : ℕ) (r : Bool) where
       let on : 24 * i + 24 ≡ 24 * (i + 1) = omega arith in
       subst (λ (n : ℕ). Filling d (exchanged s) n (putMid (24 * i) (24 * i + 24 - 24 * i) out part)) on
       (subst (Filling d (exchanged s) (24 * i + 24)) (sym back)
-      (filling-part f 24 part (omega arith) (copied ∙ right ∙ frame-exchanged s i h l)))
+      (filling-part f 24 part (omega arith) (copied ∙ right ∙ frame-exchanged (length s / 24) s i (omega arith) l)))

@@ -1,9 +1,11 @@
 // F1-frames: 98 frames of 24 bytes, in each of which the bytes of a pair are exchanged.
 ghost use mathlib.Core.Path.{_≡_};
+ghost use mathlib.Core.Bool.{cond};
+ghost use Prim.Native.Nat.{_%_};
 ghost use lib.ListN.{length};
 ghost use Rattle.outcome.specs.Say.{outcome};
 ghost use Rattle.entry.specs.Entry.{sayOf, answering};
-ghost use Rattle.f1_frames.specs.Exchange.{exchanged};
+ghost use Rattle.f1_frames.specs.Exchange.{exchanged, wholeFrames};
 ghost use Rattle.f1_frames.specs.Frames.{cutting, joining};
 use entry::Answer;
 use entry::SECTOR;
@@ -37,13 +39,28 @@ fn exchange(from: &[u8], out: &mut [u8]) -> Answer
     Answer::Done
 }
 
-// Frame by frame, both buffers of the right length.
+// `out` becomes `from` with the bytes of each pair exchanged and the answer is true, where both are as many whole times 24 bytes; else nothing
+// changes and the answer is false.
+pub fn exchange_pairs(from: &[u8], out: &mut [u8]) -> bool
+    ensures { λ r. ⌜ (r ≡ wholeFrames (now (from .entry)) (now (out .entry))) × (now (out .exit) ≡ cond r (exchanged (now (from .entry))) (now (out .entry))) ⌝ }
+{
+    if from.len() != out.len() {
+        return false;
+    }
+    if from.len() % 24 != 0 {
+        return false;
+    }
+    put_exchanged(from, out);
+    true
+}
+
+// Frame by frame, both buffers of the same length.
 fn put_exchanged(from: &[u8], out: &mut [u8])
-    requires { ⌜ (length (now from) ≡ 2352) × (length (now out) ≡ 2352) ⌝ }
+    requires { ⌜ (length (now from) % 24 ≡ 0) × (length (now out) ≡ length (now from)) ⌝ }
     ensures { λ _. ⌜ now (out .exit) ≡ exchanged (now (from .entry)) ⌝ }
 {
     let mut i: usize = 0;
-    while i < 98 {
+    while i < from.len() / 24 {
         let start = 24 * i;
         let end = start + 24;
         let frame = exchanged_frame(&from[start..end]);

@@ -45,6 +45,20 @@ extern "C" {
     fn road_scramble(sector: *const u8, length: usize, out: *mut u8, out_length: usize) -> u8;
     fn road_cut(scrambled: *const u8, length: usize, out: *mut u8, out_length: usize) -> u8;
     fn road_join(frames: *const u8, length: usize, out: *mut u8, out_length: usize) -> u8;
+    fn road_align(
+        sectors: *const u8,
+        length: usize,
+        n: usize,
+        out: *mut u8,
+        out_length: usize,
+    ) -> u8;
+    fn road_find(
+        frames: *const u8,
+        length: usize,
+        out: *mut u8,
+        out_length: usize,
+        values: *mut [u64; 3],
+    ) -> u8;
 }
 
 pub fn write(mode: u8, address: [u8; 3], data: &[u8], out: &mut [u8]) -> u8 {
@@ -112,4 +126,15 @@ pub fn cut(scrambled: &[u8], out: &mut [u8]) -> u8 {
 
 pub fn join(frames: &[u8], out: &mut [u8]) -> u8 {
     unsafe { road_join(frames.as_ptr(), frames.len(), out.as_mut_ptr(), out.len()) }
+}
+
+pub fn align(sectors: &[u8], n: usize, out: &mut [u8]) -> u8 {
+    unsafe { road_align(sectors.as_ptr(), sectors.len(), n, out.as_mut_ptr(), out.len()) }
+}
+
+/// Frame, n, and the number of whole Sectors.
+pub fn find(frames: &[u8], out: &mut [u8]) -> Told<3> {
+    let (frames, length) = (frames.as_ptr(), frames.len());
+    let (out, out_length) = (out.as_mut_ptr(), out.len());
+    told(|values| unsafe { road_find(frames, length, out, out_length, values) })
 }

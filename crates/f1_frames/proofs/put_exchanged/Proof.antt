@@ -1,9 +1,10 @@
 -- `put_exchanged` meets its contract: after `i` turns the first `i` frames are those of the list `exchanged` (`Exchanging`).
 -- Assumes nothing.
-use Prim.Native.Nat.{_*_, _-_}
+use Prim.Native.Nat.{_*_, _-_, _/_}
 use mathlib.Core.Path.{sym, _∙_}
 use native.Mathlib.Omega.{arith}
 use borrow.Author.Needs.{needs}
+use lib.ListN.{length}
 use Rattle.outcome.specs.Buffer.{Filling}
 use Rattle.outcome.specs.Buffer.Filled.{filling-none, filling-long, filling-all}
 use Rattle.f1_frames.specs.Exchange.{exchanged}
@@ -16,11 +17,11 @@ abbrev Inv-loop : tie.InvT-loop
 Inv-loop from out₀ i₀ out i = Filling out₀ (exchanged from) (24 * i) out
 
 abbrev μ-loop : tie.MeasureT-loop
-μ-loop from out₀ i₀ out i = 98 - i
+μ-loop from out₀ i₀ out i = length from / 24 - i
 
 loop-holds : tie.Need-loop-holds Inv-loop μ-loop
 loop-holds c =
-    let start = c .before .before in filling-none _ _ (start .pre .1 ∙ sym (length-exchanged (start .args .from .now) ∙ start .pre .0))
+    let start = c .before .before in filling-none _ _ (start .pre .1 ∙ sym (length-exchanged (start .args .from .now)))
 
 mul-start : tie.Need-mul-start Inv-loop μ-loop
 mul-start c = search needs

@@ -1,10 +1,11 @@
 //! What is timed: the unit, and the proved code with the targets that are set for it.
 
 use crate::{Crc, Work};
+use second::alignment::{FRAME, MOST_FRAMES, MOST_SECTORS, ROOM};
 use second::channel::*;
 use second::proved;
 use second::random::Random;
-use second::sector::{p_positions, BATCH, LENGTH, LIST, P_CODEWORDS};
+use second::sector::{p_positions, BATCH, LENGTH, LIST, P_CODEWORDS, SYNC};
 use std::hint::black_box;
 
 /// The unit first, then what is held against it.
@@ -21,6 +22,7 @@ pub fn works() -> Vec<Work> {
     works.extend(edc(&sector));
     works.extend(sectors());
     works.extend(frames(&sector));
+    works.extend(alignment());
     works.extend(circ(&sector));
     works.extend(sections());
     works
@@ -133,6 +135,29 @@ fn with_marks(f2: &[u8], lost: impl Fn(usize) -> bool) -> Vec<u8> {
         all.extend((0..32).map(|row| (lost(n) && [0, 2, 4].contains(&row)) as u8));
     }
     all
+}
+
+/// Sixteen Sectors at the last place of a frame, there and back, and as many frames as are taken without Sync.
+fn alignment() -> Vec<Work> {
+    let mut sectors = Random::new(4).bytes(LENGTH * MOST_SECTORS);
+    sectors[..12].copy_from_slice(&SYNC);
+    let mut frames = vec![0; sectors.len() + FRAME];
+    assert_eq!(proved::align(&sectors, 5, &mut frames), 0);
+    let mut out = frames.clone();
+    let align = move || {
+        assert_eq!(proved::align(black_box(&sectors), 5, black_box(&mut out)), 0);
+    };
+    let find = |frames: Vec<u8>, number: u8| {
+        let mut out = vec![0; ROOM];
+        move || {
+            assert_eq!(proved::find(black_box(&frames), black_box(&mut out)).number, number);
+        }
+    };
+    vec![
+        Work::new("align 16 Sectors at n = 5", None, align),
+        Work::new("find them", None, find(frames, 0)),
+        Work::new("find no Sync in 2,730 frames", None, find(vec![0; FRAME * MOST_FRAMES], 24)),
+    ]
 }
 
 fn circ(sector: &[u8]) -> Vec<Work> {

@@ -1,0 +1,2 @@
+-- document 02's numbers
+pub mod AlignSay

@@ -1,0 +1,3 @@
+mod Search
+mod Standing
+mod Laying

@@ -1,0 +1,2 @@
+-- document 02's numbers and values
+pub mod FindSay
