@@ -1,4 +1,6 @@
 //! Document 01, Numbers that come back, with those of document 02. Its request 6 withdraws number 8: it is given to nothing else.
+//! Document 01, Numbers that come back; document 02, 12, for 25 to 27. Document 02, 6, withdraws number 8: it is given to nothing else.
+//! Document 01, Numbers that come back, and those of document 02. Its 6 withdraws number 8: it is given to nothing else.
 
 #[derive(Clone, Copy, Debug, PartialEq, Eq)]
 pub enum Refusal {
@@ -21,12 +23,17 @@ pub enum Refusal {
     WrongRun { bit: usize },
     WrongHeader { bit: usize },
     WrongWord { bit: usize },
+    WrongIdentification,
+    WrongFrameEdc,
+    ReservedBit,
+    PastTheEnd,
 }
 
 use Refusal::*;
 
 impl Refusal {
     /// The number in the table of document 01, or of a request in document 02.
+    /// The number in the documents' tables.
     pub fn number(self) -> u8 {
         match self {
             WrongIncoming => 1,
@@ -48,6 +55,10 @@ impl Refusal {
             WrongRun { .. } => 25,
             WrongHeader { .. } => 26,
             WrongWord { .. } => 27,
+            WrongIdentification => 28,
+            WrongFrameEdc => 29,
+            ReservedBit => 30,
+            PastTheEnd => 31,
         }
     }
 
@@ -103,9 +114,13 @@ mod tests {
             WrongRun { bit: 1 },
             WrongHeader { bit: 2 },
             WrongWord { bit: 3 },
+            WrongIdentification,
+            WrongFrameEdc,
+            ReservedBit,
+            PastTheEnd,
         ];
         let numbers: Vec<u8> = all.iter().map(|r| r.number()).collect();
-        assert_eq!(numbers, [1, 2, 3, 4, 5, 7, 9, 10, 11, 12, 13, 14, 15, 22, 23, 24, 25, 26, 27]);
+        assert_eq!(numbers, [1, 2, 3, 4, 5, 7, 9, 10, 11, 12, 13, 14, 15, 22, 23, 24, 25, 26, 27, 28, 29, 30, 31]);
         let values: Vec<usize> = all.iter().filter_map(|r| r.value()).collect();
         assert_eq!(values, [85, 51, 1, 2, 3]);
     }
