@@ -1,53 +1,26 @@
--- How many addresses are left, by the minute's byte: from (A0) on it is one of the Lead-in Area.
+-- Which numbers stay small, by the area: the time that is left, and the bytes where there is room for one more.
 -- Assumes nothing.
-use mathlib.Core.Path.{_≡_, refl, sym, ap, subst, _∙_}
+use mathlib.Core.Path.{_≡_, refl, ap, subst, _∙_}
 use mathlib.Core.Bool.{Bool, true, false, cond, _&&_}
 use Prim.Native.Nat.{ℕ, _+_, _-_, _*_, _/_, _%_, _<_, _≤_}
 use native.Mathlib.Omega.{arith}
-use borrow.Author.Tests.{lt-leb}
-use lib.Dec.{leb}
 use Rattle.address.specs.declared.HeaderTime.{HeaderTime}
-use Rattle.address.specs.Address.{twoDigits, inLeadIn, inRange}
-use Rattle.counting.specs.Count.{value, placeOf, endOf, left, room}
-use Rattle.counting.specs.Count.Bytes.{and-both, Digits}
-use Rattle.counting.specs.Count.OneMore.{Ranged, ranged, minute, top, minute-digits, room-is, end-is}
+use Rattle.address.specs.Address.{inLeadIn, inRange}
+use Rattle.address.specs.Elapsed.{elapsed}
+use Rattle.counting.specs.Count.{endOf, left, room}
+use Rattle.counting.specs.Count.Bytes.{value, and-both, Digits}
+use Rattle.counting.specs.Count.OneMore.{Ranged, ranged, minute, top, minute-digits, before-end, not-last-minute}
 
-abbrev pub behind : HeaderTime → ℕ
-behind t = value (t .1) * 75 + value (t .2)
+-- what is left to the end of the area, by whether it is the Lead-in Area
+pub record LeftOf (t : HeaderTime) (end : ℕ) : Type 0 where
+  pub before : elapsed t < end
+  pub is : left t ≡ end - elapsed t
 
--- the addresses left, with the number of the minute's digits
-pub record LeftOf (t : HeaderTime) (m most end : ℕ) : Type 0 where
-  pub minute-most : value m ≤ most
-  pub second-most : value (t .1) ≤ 59
-  pub frame-most : value (t .2) ≤ 74
-  pub is : left t ≡ end - (value m * 4500 + behind t)
-
-module _ (t : HeaderTime) (e : inRange t ≡ true) where
-  by-area : (b : Bool) → inLeadIn t ≡ b → LeftOf t (cond b (t .0 - 0xA0) (t .0)) (cond b 59 99) (cond b 270000 450000)
-  unfolding left endOf placeOf minute top
-  by-area b q =
-      let r : Ranged t = ranged t e in
-      let d : Digits (cond b 59 99) (cond b (t .0 - 0xA0) (t .0)) = subst (λ (c : Bool). Digits (cond c 59 99) (cond c (t .0 - 0xA0) (t .0))) q (minute-digits t r) in
-      record {
-        minute-most = d .most;
-        second-most = r .second .most;
-        frame-most = r .frame .most;
-        is = ap (λ (c : Bool). cond c 270000 450000 - (value (cond c (t .0 - 0xA0) (t .0)) * 4500 + behind t)) q;
-      }
-
-  pub lead-left : 0xA0 ≤ t .0 → LeftOf t (t .0 - 0xA0) 59 270000
-  unfolding minute top
-  lead-left h = by (inLeadIn t) refl
-    where
-      by : (b : Bool) → inLeadIn t ≡ b → LeftOf t (t .0 - 0xA0) 59 270000
-      by true q = by-area true q
-      by false q =
-          let d : Digits 99 (t .0) = subst (λ (c : Bool). Digits (cond c 59 99) (cond c (t .0 - 0xA0) (t .0))) q (minute-digits t (ranged t e)) in
-          absurd (omega (arith, d .tens))
-
-  pub program-left : t .0 < 0xA0 → LeftOf t (t .0) 99 450000
-  unfolding inLeadIn
-  program-left h = by-area false (ap (λ (c : Bool). c && twoDigits 59 (t .0 - 0xA0)) (lt-leb 0xA0 (t .0) h))
+pub left-of : (t : HeaderTime) → inRange t ≡ true → (b : Bool) → inLeadIn t ≡ b → LeftOf t (cond b 270000 720000)
+unfolding left endOf
+left-of t e b q =
+    let end : cond {A = ℕ} (inLeadIn t) 270000 720000 ≡ cond b 270000 720000 = ap (λ (c : Bool). cond c 270000 720000) q in
+    record { before = subst (λ (n : ℕ). elapsed t < n) end (before-end t e); is = ap (λ (n : ℕ). n - elapsed t) end }
 
 -- where there is room for one more, its bytes stay bytes
 module _ (t : HeaderTime) (e : (inRange t && room 2 t) ≡ true) where
@@ -61,14 +34,9 @@ module _ (t : HeaderTime) (e : (inRange t && room 2 t) ≡ true) where
   second-small = omega (arith, ranged t (both .0) .second .tens)
 
   pub minute-small : t .1 ≡ 0x59 → t .2 ≡ 0x74 → t .0 < 249
-  unfolding left endOf placeOf value minute top
-  minute-small s f = by (inLeadIn t) refl
+  unfolding value minute top
+  minute-small s f = by (inLeadIn t) refl (minute-digits t (ranged t (both .0))) (not-last-minute t (both .0) (both .1) (ap value s) (ap value f))
     where
-      by : (b : Bool) → inLeadIn t ≡ b → t .0 < 249
-      by true q =
-          let d : Digits 59 (t .0 - 0xA0) = subst (λ (c : Bool). Digits (cond c 59 99) (cond c (t .0 - 0xA0) (t .0))) q (minute-digits t (ranged t (both .0))) in
-          let l = by-area t (both .0) true q in
-          omega (arith, room-is 2 t (both .1), l .is, d .tens, d .ones)
-      by false q =
-          let d : Digits 99 (t .0) = subst (λ (c : Bool). Digits (cond c 59 99) (cond c (t .0 - 0xA0) (t .0))) q (minute-digits t (ranged t (both .0))) in
-          omega (arith, d .tens)
+      by : (b : Bool) → inLeadIn t ≡ b → Digits (cond b 59 99) (cond b (t .0 - 0xA0) (t .0)) → value (cond b (t .0 - 0xA0) (t .0)) < cond b 59 99 → t .0 < 249
+      by true q d l = omega (arith, d .tens, d .ones)
+      by false q d l = omega (arith, d .tens)

@@ -2,28 +2,21 @@
 -- stays in the area of the address: minutes 00 to 99, or (A0) to (F9) in the Lead-in Area.
 -- Assumes nothing.
 use mathlib.Core.Bool.{Bool, cond, _&&_}
-use Prim.Native.Nat.{ℕ, zero, suc, _+_, _-_, _*_, _/_, _%_}
+use Prim.Native.Nat.{ℕ, zero, suc, _+_, _-_, _%_}
 use lib.Dec.{eqb, leb}
 use Rattle.address.specs.declared.HeaderTime.{HeaderTime}
 use Rattle.address.specs.Address.{inLeadIn, inRange}
+use Rattle.address.specs.Elapsed.{elapsed}
 pub mod Bytes
 pub mod OneMore
 
--- the number that two decimal digits make
-unfoldable pub value : ℕ → ℕ
-value b = b / 16 * 10 + b % 16
-
--- the time of an address in its area, in Sectors: 75 frames a second, 60 seconds a minute
-unfoldable pub placeOf : HeaderTime → ℕ
-placeOf t = value (cond (inLeadIn t) (t .0 - 0xA0) (t .0)) * 4500 + (value (t .1) * 75 + value (t .2))
-
--- how many addresses its area has: 60 minutes in the Lead-in Area, else 100
+-- the time at which its area ends: 60 minutes of the Lead-in Area come first, then 100 others
 unfoldable pub endOf : HeaderTime → ℕ
-endOf t = cond (inLeadIn t) 270000 450000
+endOf t = cond (inLeadIn t) 270000 720000
 
--- how many there are from this one on to the last, (F9) 59 74 or 99 59 74
+-- how many addresses there are from this one on to the last of its area, (F9) 59 74 or 99 59 74
 unfoldable pub left : HeaderTime → ℕ
-left t = endOf t - placeOf t
+left t = endOf t - elapsed t
 
 -- so many Sectors in a row do not pass the last
 unfoldable pub room : ℕ → HeaderTime → Bool

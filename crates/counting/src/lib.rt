@@ -3,28 +3,19 @@ ghost use mathlib.Core.Path.{_≡_};
 ghost use mathlib.Core.Bool.{_&&_, true};
 ghost use Prim.Native.Nat.{_<_};
 ghost use Rattle.address.specs.Address.{inRange};
-ghost use Rattle.counting.specs.Count.{value, placeOf, endOf, left, room, nextDigits, next, following};
+ghost use Rattle.counting.specs.Count.{left, room, nextDigits, next, following};
 use address::HeaderTime;
-
-// The number that two decimal digits make.
-fn value(b: u8) -> u32
-    ensures { λ r. ⌜ r ≡ value b ⌝ }
-{
-    let n = b / 16 * 10 + b % 16;
-    n as u32
-}
 
 // How many addresses there are from this one to the end of its area.
 fn left(time: HeaderTime) -> u32
     requires { ⌜ inRange time ≡ true ⌝ }
     ensures { λ r. ⌜ r ≡ left time ⌝ }
 {
-    let minute = time.0;
-    let rest = value(time.1) * 75 + value(time.2);
-    if minute >= 0xA0 {
-        return 270000 - (value(minute - 0xA0) * 4500 + rest);
+    let gone = time.elapsed();
+    if time.in_lead_in() {
+        return 270000 - gone;
     }
-    450000 - (value(minute) * 4500 + rest)
+    720000 - gone
 }
 
 // Whether so many Sectors in a row from this address on stay within its area.

@@ -4,10 +4,15 @@ use mathlib.Core.Path.{_≡_, refl, sym, ap, subst, _∙_}
 use mathlib.Core.Bool.{Bool, true, false, cond, _&&_}
 use Prim.Native.Nat.{ℕ, _+_, _-_, _*_, _/_, _%_, _<_, _≤_}
 use native.Mathlib.Omega.{arith}
-use borrow.Author.Tests.{eqb-true, eqb-false, ltb-true, leb-true, lt-ltb, le-leb}
+use borrow.Author.Tests.{eqb-true, eqb-false, lt-ltb, le-leb}
 use lib.Dec.{eqb, leb, ltb}
-use Rattle.address.specs.Address.{twoDigits}
-use Rattle.counting.specs.Count.{value, nextDigits}
+use Rattle.digits.specs.Digits.{decimal, twoDigits}
+use Rattle.digits.specs.Digits.One.{tens-lt, ones-lt, within}
+use Rattle.counting.specs.Count.{nextDigits}
+
+-- the number of two decimal digits, closed, so that arithmetic takes it for one number
+unfoldable pub value : ℕ → ℕ
+value b = decimal b
 
 pub and-both : (a b : Bool) → (a && b) ≡ true → (a ≡ true) × (b ≡ true)
 and-both true b e = (refl, e)
@@ -20,19 +25,12 @@ pub record Digits (top b : ℕ) : Type 0 where
   pub most : value b ≤ top
 
 pub digits-of : (top b : ℕ) → twoDigits top b ≡ true → Digits top b
-unfolding twoDigits value
-digits-of top b e =
-    let p = and-both (ltb (b / 16) 10) (ltb (b % 16) 10 && leb (b / 16 * 10 + b % 16) top) e in
-    let q = and-both (ltb (b % 16) 10) (leb (b / 16 * 10 + b % 16) top) (p .1) in
-    record {
-      tens = ltb-true (b / 16) 10 (p .0);
-      ones = ltb-true (b % 16) 10 (q .0);
-      most = leb-true (b / 16 * 10 + b % 16) top (q .1);
-    }
+unfolding value
+digits-of top b e = record { tens = tens-lt top b e; ones = ones-lt top b e; most = within top b e }
 
 pub of-digits : (top b : ℕ) → Digits top b → twoDigits top b ≡ true
 unfolding twoDigits value
-of-digits top b d = simp (lt-ltb (b / 16) 10 (d .tens), lt-ltb (b % 16) 10 (d .ones), le-leb (b / 16 * 10 + b % 16) top (d .most))
+of-digits top b d = simp (lt-ltb (b / 16) 10 (d .tens), lt-ltb (b % 16) 10 (d .ones), le-leb (decimal b) top (d .most))
 
 -- one more is two digits again, and makes one more
 pub record More (top b : ℕ) : Type 0 where

@@ -7,9 +7,11 @@ use native.Mathlib.Omega.{arith}
 use borrow.Author.Tests.{eqb-true, eqb-false, leb-true, le-leb, lt-leb}
 use lib.Dec.{eqb, leb}
 use Rattle.address.specs.declared.HeaderTime.{HeaderTime}
-use Rattle.address.specs.Address.{twoDigits, inProgramArea, inLeadIn, inRange}
-use Rattle.counting.specs.Count.{value, placeOf, endOf, left, room, nextDigits, next, following, after}
-use Rattle.counting.specs.Count.Bytes.{and-both, Digits, digits-of, of-digits, More, digits-more}
+use Rattle.digits.specs.Digits.{decimal, twoDigits}
+use Rattle.address.specs.Address.{inProgramArea, inLeadIn, inRange}
+use Rattle.address.specs.Elapsed.{minutes, elapsed}
+use Rattle.counting.specs.Count.{endOf, left, room, nextDigits, next, following, after}
+use Rattle.counting.specs.Count.Bytes.{value, and-both, Digits, digits-of, of-digits, More, digits-more}
 
 -- what an address in range is made of
 pub record Ranged (t : HeaderTime) : Type 0 where
@@ -47,13 +49,36 @@ minute-digits t r = by (inLeadIn t) refl
     by true e = digits-of 59 (t .0 - 0xA0) (and-both (leb 0xA0 (t .0)) (twoDigits 59 (t .0 - 0xA0)) e .1)
     by false e = digits-of 99 (t .0) (program (inProgramArea t) (subst (λ (b : Bool). (inProgramArea t || b) ≡ true) e (r .area)))
 
-pub end-is : (t : HeaderTime) → endOf t ≡ top t * 4500 + 4500
-unfolding endOf top
+-- its time from the beginning of its area on, and the time at which that begins
+unfoldable placeOf : HeaderTime → ℕ
+placeOf t = value (minute t) * 4500 + (value (t .1) * 75 + value (t .2))
+
+unfoldable from : HeaderTime → ℕ
+from t = cond (inLeadIn t) 0 270000
+
+time-is : (t : HeaderTime) → elapsed t ≡ from t + placeOf t
+unfolding elapsed minutes from placeOf minute value
+time-is t = by (inLeadIn t)
+  where
+    by : (b : Bool) → (cond b (decimal (t .0 - 0xA0)) (60 + decimal (t .0)) * 60 + decimal (t .1)) * 75 + decimal (t .2)
+        ≡ cond b 0 270000 + (decimal (cond b (t .0 - 0xA0) (t .0)) * 4500 + (decimal (t .1) * 75 + decimal (t .2)))
+    by true = omega arith
+    by false = omega arith
+
+end-is : (t : HeaderTime) → endOf t ≡ from t + (top t * 4500 + 4500)
+unfolding endOf from top
 end-is t = by (inLeadIn t)
   where
-    by : (b : Bool) → cond b 270000 450000 ≡ cond b 59 99 * 4500 + 4500
+    by : (b : Bool) → cond b 270000 720000 ≡ cond b 0 270000 + (cond b 59 99 * 4500 + 4500)
     by true = refl
     by false = refl
+
+-- the time of an address lies before the end of its area
+pub before-end : (t : HeaderTime) → inRange t ≡ true → elapsed t < endOf t
+unfolding placeOf
+before-end t e =
+    let r : Ranged t = ranged t e in
+    omega (arith, time-is t, end-is t, minute-digits t r .most, r .second .most, r .frame .most)
 
 -- ---- the three cases
 
@@ -61,7 +86,11 @@ end-is t = by (inLeadIn t)
 pub record Next (t u : HeaderTime) : Type 0 where
   pub in-range : inRange u ≡ true
   pub same-area : inLeadIn u ≡ inLeadIn t
-  pub one-more : placeOf u ≡ placeOf t + 1
+  pub one-more : elapsed u ≡ elapsed t + 1
+
+next-as : (t u : HeaderTime) → inRange u ≡ true → inLeadIn u ≡ inLeadIn t → placeOf u ≡ placeOf t + 1 → Next t u
+unfolding from
+next-as t u r a p = record { in-range = r; same-area = a; one-more = omega (arith, time-is t, time-is u, ap (λ (b : Bool). cond {A = ℕ} b 0 270000) a) }
 
 value-59 : value 0x59 ≡ 59
 unfolding value
@@ -110,13 +139,8 @@ module _ (t : HeaderTime) (r : Ranged t) where
     with = record { 0 = t .0; 1 = s; 2 = f }
 
     kept : Digits 59 s → Digits 74 f → value s * 75 + value f ≡ value (t .1) * 75 + value (t .2) + 1 → Next t with
-    unfolding placeOf inLeadIn inProgramArea
-    kept ds df e =
-        record {
-          in-range = in-range with (record { area = r .area; second = ds; frame = df });
-          same-area = refl;
-          one-more = omega (arith, e);
-        }
+    unfolding placeOf minute inLeadIn inProgramArea
+    kept ds df e = next-as t with (in-range with (record { area = r .area; second = ds; frame = df })) refl (omega (arith, e))
 
   -- one minute more
   abbrev later : HeaderTime
@@ -131,11 +155,11 @@ module _ (t : HeaderTime) (r : Ranged t) where
   none-74 = digits-of 74 0 refl
 
   place-later : (m : ℕ) → cond (inLeadIn later) (nextDigits (t .0) - 0xA0) (nextDigits (t .0)) ≡ m → placeOf later ≡ value m * 4500
-  unfolding placeOf
+  unfolding placeOf minute
   place-later m e = omega (arith, ap value e, value-zero)
 
   place-is : placeOf t ≡ value (minute t) * 4500 + (value (t .1) * 75 + value (t .2))
-  unfolding placeOf minute
+  unfolding placeOf
   place-is = refl
 
   module _ (s : value (t .1) ≡ 59) (f : value (t .2) ≡ 74) where
@@ -149,12 +173,12 @@ module _ (t : HeaderTime) (r : Ranged t) where
         let c = next-behind m a in
         let lead : inLeadIn later ≡ true
         = simp (le-leb 0xA0 (nextDigits m) (c .1), c .0, of-digits 59 (nextDigits (m - 0xA0)) (w .digits)) in
-        record {
-          in-range = in-range later (record { area = or-right (inProgramArea later) lead; second = none-59; frame = none-74 });
-          same-area = lead ∙ sym e;
-          one-more =
-              place-later (nextDigits (m - 0xA0)) (ap (λ (b : Bool). cond b (nextDigits m - 0xA0) (nextDigits m)) lead ∙ c .0) ∙ omega (arith, w .more, p);
-        }
+        next-as
+        t
+        later
+        (in-range later (record { area = or-right (inProgramArea later) lead; second = none-59; frame = none-74 }))
+        (lead ∙ sym e)
+        (place-later (nextDigits (m - 0xA0)) (ap (λ (b : Bool). cond b (nextDigits m - 0xA0) (nextDigits m)) lead ∙ c .0) ∙ omega (arith, w .more, p))
 
     program-on : inLeadIn t ≡ false → Digits 99 (t .0) → value (t .0) < 99 → placeOf t ≡ value (t .0) * 4500 + (value (t .1) * 75 + value (t .2)) → Next t later
     unfolding inLeadIn inProgramArea
@@ -162,12 +186,12 @@ module _ (t : HeaderTime) (r : Ranged t) where
         let m : ℕ = t .0 in
         let w = digits-more 99 m (omega arith) d h in
         let lead : inLeadIn later ≡ false = simp (lt-leb 0xA0 (nextDigits m) (omega (arith, w .digits .tens))) in
-        record {
-          in-range =
-              in-range later (record { area = or-left (inLeadIn later) (of-digits 99 (nextDigits m) (w .digits)); second = none-59; frame = none-74 });
-          same-area = lead ∙ sym e;
-          one-more = place-later (nextDigits m) (ap (λ (b : Bool). cond b (nextDigits m - 0xA0) (nextDigits m)) lead) ∙ omega (arith, w .more, p);
-        }
+        next-as
+        t
+        later
+        (in-range later (record { area = or-left (inLeadIn later) (of-digits 99 (nextDigits m) (w .digits)); second = none-59; frame = none-74 }))
+        (lead ∙ sym e)
+        (place-later (nextDigits m) (ap (λ (b : Bool). cond b (nextDigits m - 0xA0) (nextDigits m)) lead) ∙ omega (arith, w .more, p))
 
     minute-on : value (minute t) < top t → Next t later
     unfolding minute top
@@ -188,10 +212,10 @@ module _ (t : HeaderTime) (e : inRange t ≡ true) (h : room 2 t ≡ true) where
   r : Ranged t
   r = ranged t e
 
-  not-last-minute : value (t .1) ≡ 59 → value (t .2) ≡ 74 → value (minute t) < top t
+  pub not-last-minute : value (t .1) ≡ 59 → value (t .2) ≡ 74 → value (minute t) < top t
   unfolding left
   not-last-minute s f =
-      omega (arith, room-is 2 t h, end-is t, place-is t r)
+      omega (arith, room-is 2 t h, end-is t, time-is t, place-is t r)
 
   -- it is one more in time, in range and in the same area
   pub next-is : Next t (next t)
@@ -221,7 +245,7 @@ following-next t e h = simp (e, h)
 pub record Counted (t : HeaderTime) (i : ℕ) (u : HeaderTime) : Type 0 where
   pub in-range : inRange u ≡ true
   pub same-area : inLeadIn u ≡ inLeadIn t
-  pub later : placeOf u ≡ placeOf t + i
+  pub later : elapsed u ≡ elapsed t + i
 
 -- where there is room for k Sectors, each of their addresses is so
 pub counted : (k : ℕ) (t : HeaderTime) → inRange t ≡ true → room k t ≡ true → (i : ℕ) → i < k → Counted t i (after i t)
@@ -234,9 +258,9 @@ counted k t e h (suc i) l =
     subst (λ (v : HeaderTime). Counted t (suc i) v) (sym (following-next u (c .in-range) (room-left u (c .same-area) (c .later))))
     (record { in-range = n .in-range; same-area = n .same-area ∙ c .same-area; later = n .one-more ∙ omega (arith, c .later) })
   where
-    ends : (u : HeaderTime) → inLeadIn u ≡ inLeadIn t → cond {A = ℕ} (inLeadIn u) 270000 450000 ≡ cond (inLeadIn t) 270000 450000
-    ends u a = ap (λ (b : Bool). cond b 270000 450000) a
+    ends : (u : HeaderTime) → inLeadIn u ≡ inLeadIn t → cond {A = ℕ} (inLeadIn u) 270000 720000 ≡ cond (inLeadIn t) 270000 720000
+    ends u a = ap (λ (b : Bool). cond b 270000 720000) a
 
-    room-left : (u : HeaderTime) → inLeadIn u ≡ inLeadIn t → placeOf u ≡ placeOf t + i → room 2 u ≡ true
+    room-left : (u : HeaderTime) → inLeadIn u ≡ inLeadIn t → elapsed u ≡ elapsed t + i → room 2 u ≡ true
     room-left u a p =
         le-leb 2 (left u) (omega (arith, room-is k t h, ends u a, p))
