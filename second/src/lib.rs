@@ -4,6 +4,7 @@ pub mod alignment;
 pub mod channel;
 pub mod circ;
 pub mod codeword;
+pub mod control;
 pub mod edc;
 pub mod empties;
 pub mod field;

@@ -15,6 +15,9 @@ pub enum Refusal {
     WrongP { codeword: usize },
     WrongQ { codeword: usize },
     WrongFiller,
+    WrongCrc,
+    WrongQMode,
+    WrongField,
     WrongPasses,
     UnknownPlace,
     NoSync,
@@ -42,6 +45,9 @@ impl Refusal {
             WrongP { .. } => 13,
             WrongQ { .. } => 14,
             WrongFiller => 15,
+            WrongCrc => 16,
+            WrongQMode => 17,
+            WrongField => 18,
             WrongPasses => 22,
             UnknownPlace => 23,
             NoSync => 24,
@@ -97,6 +103,9 @@ mod tests {
             WrongP { codeword: 85 },
             WrongQ { codeword: 51 },
             WrongFiller,
+            WrongCrc,
+            WrongQMode,
+            WrongField,
             WrongPasses,
             UnknownPlace,
             NoSync,
@@ -105,7 +114,7 @@ mod tests {
             WrongWord { bit: 3 },
         ];
         let numbers: Vec<u8> = all.iter().map(|r| r.number()).collect();
-        assert_eq!(numbers, [1, 2, 3, 4, 5, 7, 9, 10, 11, 12, 13, 14, 15, 22, 23, 24, 25, 26, 27]);
+        assert_eq!(numbers, [1, 2, 3, 4, 5, 7, 9, 10, 11, 12, 13, 14, 15, 16, 17, 18, 22, 23, 24, 25, 26, 27]);
         let values: Vec<usize> = all.iter().filter_map(|r| r.value()).collect();
         assert_eq!(values, [85, 51, 1, 2, 3]);
     }

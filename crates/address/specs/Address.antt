@@ -1,14 +1,11 @@
 -- The address of a Sector (clause 14.2): minute, second and frame, a byte of two decimal digits each; in the Lead-in Area (A0) is added to the minute.
 -- Assumes nothing.
 use mathlib.Core.Bool.{Bool, _&&_, _||_}
-use Prim.Native.Nat.{ℕ, _+_, _-_, _*_, _/_, _%_}
-use lib.Dec.{ltb, leb}
+use Prim.Native.Nat.{_-_}
+use lib.Dec.{leb}
+use Rattle.digits.specs.Digits.{twoDigits}
 use Rattle.address.specs.declared.HeaderTime.{HeaderTime}
 pub mod Minutes
-
--- two decimal digits, the tens in the upper half of the byte, that make a number of at most top
-unfoldable pub twoDigits : ℕ → ℕ → Bool
-twoDigits top b = ltb (b / 16) 10 && (ltb (b % 16) 10 && leb (b / 16 * 10 + b % 16) top)
 
 -- the minute is one of the User Data Area or the Lead-out Area: 00 to 99
 unfoldable pub inProgramArea : HeaderTime → Bool

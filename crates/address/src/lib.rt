@@ -1,32 +1,27 @@
-// The address of a Sector (clause 14.2).
+// The address of a Sector (clause 14.2): the time in its Header, which stands in no fixed relation to that of a Section (clause 21).
 ghost use mathlib.Core.Path.{_≡_};
 ghost use mathlib.Core.Bool.{_||_};
-ghost use Rattle.address.specs.Address.{twoDigits, inProgramArea, inLeadIn, inRange};
+ghost use Prim.Native.Nat.{_≤_};
+ghost use lib.Dec.{ltb};
+ghost use Rattle.address.specs.Address.{inProgramArea, inLeadIn, inRange};
+ghost use Rattle.address.specs.Elapsed.{minutes, elapsed};
 
 // The three address bytes of a Sector's header: minute, second, frame.
 pub struct HeaderTime(pub u8, pub u8, pub u8);
 
-// Two twoDigits digits that make a number of at most `top`.
-fn two_digits(b: u8, top: u8) -> bool
-    ensures { λ r. ⌜ r ≡ twoDigits top b ⌝ }
-{
-    let tens = b / 16;
-    let ones = b % 16;
-    if tens >= 10 {
-        return false;
-    }
-    if ones >= 10 {
-        return false;
-    }
-    tens * 10 + ones <= top
-}
-
 impl HeaderTime {
+    // The time of three address bytes as they stand.
+    pub fn new(minute: u8, second: u8, frame: u8) -> Self
+        ensures { λ r. ⌜ r ≡ record { 0 = minute; 1 = second; 2 = frame } ⌝ }
+    {
+        HeaderTime(minute, second, frame)
+    }
+
     // Whether the minute is one of the User Data Area or the Lead-out Area.
     fn in_program_area(self) -> bool
         ensures { λ r. ⌜ r ≡ inProgramArea self ⌝ }
     {
-        two_digits(self.0, 99)
+        digits::two_digits(self.0, 99)
     }
 
     // Whether the minute is one of the Lead-in Area, where (A0) is added to it.
@@ -37,7 +32,7 @@ impl HeaderTime {
         if minute < 0xA0 {
             return false;
         }
-        two_digits(minute - 0xA0, 59)
+        digits::two_digits(minute - 0xA0, 59)
     }
 
     // Whether the minute is one of either.
@@ -57,9 +52,36 @@ impl HeaderTime {
         if !self.minute_right() {
             return false;
         }
-        if !two_digits(self.1, 59) {
+        if !digits::two_digits(self.1, 59) {
             return false;
         }
-        two_digits(self.2, 74)
+        digits::two_digits(self.2, 74)
+    }
+
+    // The minutes since the earliest time that an address can have.
+    fn minutes(self) -> u32
+        ensures { λ r. ⌜ (r ≡ minutes self) × (r ≤ 225) ⌝ }
+    {
+        let minute = self.0;
+        if self.in_lead_in() {
+            return digits::value(minute - 0xA0);
+        }
+        60 + digits::value(minute)
+    }
+
+    // The same in 75ths of a second.
+    fn elapsed(self) -> u32
+        ensures { λ r. ⌜ r ≡ elapsed self ⌝ }
+    {
+        let minutes = self.minutes();
+        let seconds = minutes * 60 + digits::value(self.1);
+        seconds * 75 + digits::value(self.2)
+    }
+
+    // Whether this address lies before the other.
+    pub fn earlier(self, other: HeaderTime) -> bool
+        ensures { λ r. ⌜ r ≡ ltb (elapsed self) (elapsed other) ⌝ }
+    {
+        self.elapsed() < other.elapsed()
     }
 }

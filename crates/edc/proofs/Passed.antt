@@ -11,7 +11,10 @@ use lib.ListN.{length, take, drop, getD, length-drop}
 use lib.Seq.{take-all, take-add, drop-cons, length-take-le}
 use Rattle.outcome.specs.Bytes.{Bytes}
 use Rattle.edc.specs.Bits.{bits, numberLowFirst}
-use Rattle.edc.specs.Edc.{divided, remainder}
+use Rattle.division.specs.Division as by
+use Rattle.division.specs.Division.{divided}
+use Rattle.edc.specs.Polynomial.{divisor}
+use Rattle.edc.specs.Edc.{remainder}
 use Rattle.edc.specs.Polynomial.Lengths.{coefs-bits, length-bits, bits-append}
 use Rattle.edc.specs.Bits.Numbers.{number-byte}
 use Rattle.edc.specs.Inner.Register.{steps}
@@ -58,7 +61,7 @@ pub record Passed (bytes : List ℕ) (i r : ℕ) : Type 0 where
   pub is : r ≡ numberLowFirst (remainder (bits (take i bytes)))
 
 pub passed-none : (bytes : List ℕ) → Passed bytes 0 0
-unfolding remainder divided numberLowFirst
+unfolding remainder by.remainder divided divisor numberLowFirst
 passed-none bytes = record { upto = omega arith; is = refl }
 
 module _ {bytes : List ℕ} {i r : ℕ} (p : Passed bytes i r) where

@@ -1,14 +1,11 @@
--- Nothing is left of a polynomial exactly where it is the divisor times some polynomial. A polynomial with fewer coefficients than
--- the remainder is its own remainder (`remainder-short` of Division), so that there only zeros leave nothing.
+-- Bytes are divisible exactly where their polynomial is the divisor times some polynomial.
 -- Assumes nothing.
-use mathlib.Core.Path.{_≡_}
 use mathlib.Core.List.{List}
 use Prim.Native.Nat.{ℕ}
-use Rattle.edc.specs.Polynomial.{Coefficients, product, divisor}
+use Rattle.division.specs.Multiple as by
+use Rattle.edc.specs.Polynomial.{divisor}
 pub mod Zero
 
 -- the divisor times a polynomial
-pub record Multiple (cs : List ℕ) : Type 0 where
-  pub quotient : List ℕ
-  pub coefs : Coefficients quotient
-  pub is : cs ≡ product divisor quotient
+abbrev pub Multiple : List ℕ → Type 0
+Multiple cs = by.Multiple divisor cs

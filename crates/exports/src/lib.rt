@@ -3,6 +3,7 @@ mod alignments;
 mod batches;
 mod circ_running;
 mod codewords;
+mod controls;
 mod elements;
 mod frames;
 mod judging;

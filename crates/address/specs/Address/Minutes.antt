@@ -7,7 +7,8 @@ use mathlib.Core.List.{List, [], _∷_, _++_}
 use Prim.Native.Nat.{ℕ, zero, suc, _+_, _*_, _/_, _%_}
 use lib.ListN.{length}
 use Rattle.outcome.specs.Table.{tabulated}
-use Rattle.address.specs.Address.{twoDigits, inProgramArea, inLeadIn}
+use Rattle.digits.specs.Digits.{twoDigits}
+use Rattle.address.specs.Address.{inProgramArea, inLeadIn}
 use Rattle.address.specs.declared.HeaderTime.{HeaderTime}
 
 -- a number below 100 as two decimal digits

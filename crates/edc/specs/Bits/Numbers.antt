@@ -10,8 +10,9 @@ use lib.ListN.{length, take, drop, replicate, length-drop, take-append-drop}
 use lib.Seq.{length-take-le}
 use Rattle.outcome.specs.Bytes.{Bytes}
 use Rattle.edc.specs.Bits.{bitsLowFirst, bits, numberLowFirst, bytesLowFirst}
-use Rattle.edc.specs.Polynomial.{Coefficients, plus, scaled}
-use Rattle.edc.specs.Polynomial.Lengths.{coefs-take, coefs-drop, length-bitsOf}
+use Rattle.bits.specs.Binary.Parts.{binary-take, binary-drop}
+use Rattle.division.specs.Polynomial.{Coefficients, plus, scaled}
+use Rattle.edc.specs.Polynomial.Lengths.{length-bitsOf}
 
 pub number-zeros : (n : ℕ) → numberLowFirst (replicate n 0) ≡ 0
 unfolding numberLowFirst
@@ -126,7 +127,7 @@ first-byte cs l =
     ∙ ap (λ (n : ℕ). numberLowFirst (take 8 cs) + numberLowFirst (drop 8 cs) * 2 ^ n) e ∙ omega arith
 
 pub first-byte-lt : (cs : List ℕ) → Coefficients cs → 8 ≤ length cs → numberLowFirst (take 8 cs) < 256
-first-byte-lt cs h l = rw (length-take-le 8 cs l) at (number-lt (take 8 cs) (coefs-take 8 cs h))
+first-byte-lt cs h l = rw (length-take-le 8 cs l) at (number-lt (take 8 cs) (binary-take 8 cs h))
 
 pub bits-bytesOf : (n : ℕ) (cs : List ℕ) → Coefficients cs → length cs ≡ n * 8 → bits (bytesLowFirst n cs) ≡ cs
 bits-bytesOf zero [] h e = refl
@@ -134,8 +135,8 @@ bits-bytesOf zero (c ∷ cs) h e = absurd (suc-ne-zero (length cs) e)
 bits-bytesOf (suc n) cs h e =
     let l : length (take 8 cs) ≡ 8 = length-take-le 8 cs (omega arith) in
     ap₂ (λ (x y : List ℕ). x ++ y)
-    (ap (λ (m : ℕ). bitsLowFirst m (numberLowFirst (take 8 cs))) (sym l) ∙ bitsOf-number (take 8 cs) (coefs-take 8 cs h))
-    (bits-bytesOf n (drop 8 cs) (coefs-drop 8 cs h) (omega (arith, length-drop 8 cs)))
+    (ap (λ (m : ℕ). bitsLowFirst m (numberLowFirst (take 8 cs))) (sym l) ∙ bitsOf-number (take 8 cs) (binary-take 8 cs h))
+    (bits-bytesOf n (drop 8 cs) (binary-drop 8 cs h) (omega (arith, length-drop 8 cs)))
     ∙ take-append-drop 8 cs
 
 pub bytesOf-bits : (bytes : List ℕ) → Bytes bytes → bytesLowFirst (length bytes) (bits bytes) ≡ bytes

@@ -9,10 +9,15 @@ use native.Mathlib.Omega.{arith}
 use lib.Bits.{bitXor, xor-block, xor-zero-r}
 use lib.ListN.{length, drop, replicate, length-append, length-replicate}
 use Rattle.edc.specs.Bits.{numberLowFirst}
-use Rattle.edc.specs.Polynomial.{Coefficients, plus, scaled, divisor}
-use Rattle.edc.specs.Edc.{brought, divided, remainder}
-use Rattle.edc.specs.Polynomial.Lengths.{coefs-append, coefs-drop, coefs-zeros, coefs-scaled, coefs-divisor, length-scaled}
-use Rattle.edc.specs.Polynomial.Lengths.{coefs-brought, coefs-remainder, length-brought, length-remainder}
+use Rattle.bits.specs.Binary.Parts.{binary-append, binary-drop}
+use Rattle.division.specs.Polynomial.{Coefficients, plus, scaled}
+use Rattle.division.specs.Polynomial.Lengths.{coefs-zeros, coefs-scaled, length-scaled}
+use Rattle.division.specs.Division.{brought, divided}
+use Rattle.division.specs.Division as whole
+use Rattle.division.specs.Division.Lengths as by
+use Rattle.edc.specs.Polynomial.{divisor}
+use Rattle.edc.specs.Polynomial.Lengths.{coefs-divisor, coefs-remainder, length-divisor, length-remainder}
+use Rattle.edc.specs.Edc.{remainder}
 use Rattle.edc.specs.Bits.Numbers.{number-zeros, number-append, number-lt, number-plus, number-scaled, number-inj}
 use Rattle.edc.specs.Inner.Register.{feedback, step, steps, steps-zeros, steps-join, steps-split}
 
@@ -23,7 +28,7 @@ low = drop 1 divisor
 
 coefs-low : Coefficients low
 unfolding low
-coefs-low = coefs-drop 1 divisor coefs-divisor
+coefs-low = binary-drop 1 divisor coefs-divisor
 
 length-low : length low ≡ 32
 unfolding low divisor
@@ -38,22 +43,22 @@ unfolding numberLowFirst
 number-one c = omega arith
 
 module _ (t c : ℕ) (rest : List ℕ) (ht : t < 2) (hc : c < 2) (h : Coefficients rest) (l : length rest ≡ 31) where
-  brought-is : brought (t ∷ rest) c ≡ plus (rest ++ (c ∷ [])) (scaled t low)
+  brought-is : brought divisor (t ∷ rest) c ≡ plus (rest ++ (c ∷ [])) (scaled t low)
   unfolding brought low divisor
   brought-is = refl
 
-  number-brought : numberLowFirst (brought (t ∷ rest) c) ≡ bitXor (numberLowFirst rest + c * 2 ^ 31) (t * feedback)
+  number-brought : numberLowFirst (brought divisor (t ∷ rest) c) ≡ bitXor (numberLowFirst rest + c * 2 ^ 31) (t * feedback)
   unfolding low
   number-brought =
       ap numberLowFirst brought-is
-      ∙ number-plus (rest ++ (c ∷ [])) (scaled t low) (coefs-append rest (c ∷ []) h (hc, tt)) (coefs-scaled t low ht coefs-low)
+      ∙ number-plus (rest ++ (c ∷ [])) (scaled t low) (binary-append rest (c ∷ []) h (hc, tt)) (coefs-scaled t low ht coefs-low)
       (omega (arith, length-append rest (c ∷ []), length-scaled t low, length-low))
       ∙ ap₂ bitXor
       (number-append rest (c ∷ []) ∙ ap₂ (λ (x n : ℕ). numberLowFirst rest + x * 2 ^ n) (number-one c) l)
       (number-scaled t low ∙ ap (λ (x : ℕ). t * x) number-low)
 
   -- n is the numberLowFirst of the coefficients after c
-  step-brought : (n : ℕ) → step (numberLowFirst (t ∷ rest) + (c + n * 2) * 2 ^ 32) ≡ numberLowFirst (brought (t ∷ rest) c) + n * 2 ^ 32
+  step-brought : (n : ℕ) → step (numberLowFirst (t ∷ rest) + (c + n * 2) * 2 ^ 32) ≡ numberLowFirst (brought divisor (t ∷ rest) c) + n * 2 ^ 32
   unfolding step numberLowFirst
   step-brought n =
       let m : ℕ = numberLowFirst rest in
@@ -73,35 +78,31 @@ module _ (t c : ℕ) (rest : List ℕ) (ht : t < 2) (hc : c < 2) (h : Coefficien
 -- ---- the division is so many steps
 
 pub divided-steps : (r cs : List ℕ) → Coefficients r → Coefficients cs → length r ≡ 32
-    → numberLowFirst (divided r cs) ≡ steps (length cs) (numberLowFirst r + numberLowFirst cs * 2 ^ 32)
+    → numberLowFirst (divided divisor r cs) ≡ steps (length cs) (numberLowFirst r + numberLowFirst cs * 2 ^ 32)
 unfolding divided steps numberLowFirst
 divided-steps r [] h k l = omega arith
 divided-steps [] (c ∷ cs) h k l = absurd (omega arith)
 divided-steps (t ∷ r) (c ∷ cs) h k l =
-    divided-steps (brought (t ∷ r) c) cs (coefs-brought (t ∷ r) c) (k .1) (length-brought (t ∷ r) c l)
+    divided-steps (brought divisor (t ∷ r) c) cs (by.coefs-brought divisor (t ∷ r) c) (k .1) (by.length-brought divisor 32 length-divisor (t ∷ r) c l)
     ∙ ap (steps (length cs)) (sym (step-brought t c r (h .0) (k .0) (h .1) (omega arith) (numberLowFirst cs)))
 
 -- 32 + n coefficients: the first 32 come down as they are, and n steps are left
 pub remainder-steps : (n : ℕ) (cs : List ℕ) → Coefficients cs → length cs ≡ 32 + n → numberLowFirst (remainder cs) ≡ steps n (numberLowFirst cs)
-unfolding remainder
+unfolding remainder whole.remainder
 remainder-steps n cs h l =
-    divided-steps (replicate 32 0) cs (coefs-zeros 32) h (length-replicate {A = ℕ} 32 0)
+    ap (λ (n : ℕ). numberLowFirst (divided divisor (replicate (n - 1) 0) cs)) length-divisor
+    ∙ divided-steps (replicate 32 0) cs (coefs-zeros 32) h (length-replicate {A = ℕ} 32 0)
     ∙ ap₂ (λ (k z : ℕ). steps k (z + numberLowFirst cs * 2 ^ 32)) l (number-zeros 32)
     ∙ ap (steps (32 + n)) (zero-add (numberLowFirst cs * 2 ^ 32))
     ∙ steps-join 32 n (numberLowFirst cs * 2 ^ 32)
     ∙ ap (steps n) (steps-zeros 32 (numberLowFirst cs))
-
-divided-append : (r cs ds : List ℕ) → divided r (cs ++ ds) ≡ divided (divided r cs) ds
-unfolding divided
-divided-append r [] ds = refl
-divided-append r (c ∷ cs) ds = divided-append (brought r c) cs ds
 
 -- coefficients ds more: so many steps more
 pub remainder-append : (cs ds : List ℕ) → Coefficients ds
     → numberLowFirst (remainder (cs ++ ds)) ≡ steps (length ds) (numberLowFirst (remainder cs) + numberLowFirst ds * 2 ^ 32)
 unfolding remainder
 remainder-append cs ds k =
-    ap numberLowFirst (divided-append (replicate 32 0) cs ds) ∙ divided-steps (remainder cs) ds (coefs-remainder cs) k (length-remainder cs)
+    ap numberLowFirst (by.remainder-append divisor cs ds) ∙ divided-steps (remainder cs) ds (coefs-remainder cs) k (length-remainder cs)
 
 pub remainder-lt : (cs : List ℕ) → numberLowFirst (remainder cs) < 2 ^ 32
 remainder-lt cs = subst (λ (n : ℕ). numberLowFirst (remainder cs) < 2 ^ n) (length-remainder cs) (number-lt (remainder cs) (coefs-remainder cs))
@@ -113,21 +114,3 @@ remainder-word cs ds k l =
     let r : ℕ = numberLowFirst (remainder cs) in
     let e : r + numberLowFirst ds * 2 ^ 32 ≡ numberLowFirst ds * 2 ^ 32 + r = omega arith in
     remainder-append cs ds k ∙ ap₂ steps l e ∙ steps-split 32 (numberLowFirst ds) r (remainder-lt cs)
-
--- at most 32 coefficients come down as they are
-pub remainder-short : (cs : List ℕ) → Coefficients cs → length cs ≤ 32 → remainder cs ≡ replicate (32 - length cs) 0 ++ cs
-unfolding remainder
-remainder-short cs h l =
-    let n : ℕ = 32 - length cs in
-    let zs : List ℕ = replicate n 0 in
-    let m : length zs ≡ n = length-replicate {A = ℕ} n 0 in
-    let e : n + length cs ≡ 32 = omega arith in
-    let f : numberLowFirst cs * 2 ^ (n + length cs) ≡ numberLowFirst cs * 2 ^ n * 2 ^ length cs
-    = ap (λ (k : ℕ). numberLowFirst cs * k) (pow-add 2 n (length cs)) ∙ sym (mul-assoc (numberLowFirst cs) (2 ^ n) (2 ^ length cs)) in
-    number-inj (remainder cs) (zs ++ cs) (coefs-remainder cs) (coefs-append zs cs (coefs-zeros n) h)
-    (length-remainder cs ∙ sym (length-append zs cs ∙ ap (λ (k : ℕ). k + length cs) m ∙ e))
-    (divided-steps (replicate 32 0) cs (coefs-zeros 32) h (length-replicate {A = ℕ} 32 0)
-    ∙ ap₂ (λ (z k : ℕ). steps (length cs) (z + numberLowFirst cs * 2 ^ k)) (number-zeros 32) (sym e)
-    ∙ ap (steps (length cs)) (zero-add (numberLowFirst cs * 2 ^ (n + length cs)) ∙ f)
-    ∙ steps-zeros (length cs) (numberLowFirst cs * 2 ^ n)
-    ∙ sym (number-append zs cs ∙ ap₂ (λ (z k : ℕ). z + numberLowFirst cs * 2 ^ k) (number-zeros n) m ∙ zero-add (numberLowFirst cs * 2 ^ n)))

@@ -5,7 +5,9 @@ use mathlib.Core.List.{List, [], _∷_, _++_}
 use Prim.Native.Nat.{ℕ}
 use Rattle.edc.specs.Bits.{bits, numberLowFirst}
 use Rattle.edc.specs.Polynomial.{divisor}
-use Rattle.edc.specs.Edc.{brought, divided, remainder, edc}
+use Rattle.division.specs.Division as by
+use Rattle.division.specs.Division.{brought, divided, check}
+use Rattle.edc.specs.Edc.{remainder, edc}
 
 -- "123456789"
 abbrev nine : List ℕ
@@ -13,9 +15,9 @@ nine = 49 ∷ 50 ∷ 51 ∷ 52 ∷ 53 ∷ 54 ∷ 55 ∷ 56 ∷ 57 ∷ []
 
 -- followed by four zero bytes
 pub check-number : numberLowFirst (remainder (bits (nine ++ (0 ∷ 0 ∷ 0 ∷ 0 ∷ [])))) ≡ 0x6EC2EDC4
-unfolding remainder divided brought divisor numberLowFirst
+unfolding remainder by.remainder divided brought divisor numberLowFirst
 check-number = refl
 
 pub check-bytes : edc nine ≡ 0xC4 ∷ 0xED ∷ 0xC2 ∷ 0x6E ∷ []
-unfolding edc remainder divided brought divisor numberLowFirst
+unfolding edc check by.remainder divided brought divisor numberLowFirst
 check-bytes = refl

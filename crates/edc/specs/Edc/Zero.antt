@@ -1,29 +1,17 @@
 -- The test for a remainder 0, on the list and on the numberLowFirst.
 -- Assumes nothing.
 use mathlib.Core.Path.{_≡_, refl, sym, ap, _∙_}
-use mathlib.Core.Bool.{Bool, true, false, _&&_}
+use mathlib.Core.Bool.{Bool, true, _&&_}
 use mathlib.Core.List.{List, [], _∷_}
 use Prim.Native.Nat.{ℕ, zero, suc, _+_, _*_}
 use native.Mathlib.Omega.{arith}
 use borrow.Author.Tests.{ne-eqb}
 use lib.Dec.{eqb, eqb·suc-zero}
 use lib.ListN.{length, replicate}
+use Rattle.division.specs.Polynomial.Zeros.{zero-is, is-zero}
 use Rattle.edc.specs.Bits.{bits, numberLowFirst}
 use Rattle.edc.specs.Edc.{remainder, isZero, Divisible}
 use Rattle.edc.specs.Polynomial.Lengths.{length-remainder}
-
-false-true : false ≡ true → ⊥
-false-true e = let z : _≡_ {A = ℕ} 0 1 = cc in omega arith
-
--- a list that passes is all zeros, and zeros pass
-pub zero-is : (cs : List ℕ) → isZero cs ≡ true → cs ≡ replicate (length cs) 0
-zero-is [] e = refl
-zero-is (zero ∷ cs) e = ap (λ (l : List ℕ). 0 ∷ l) (zero-is cs e)
-zero-is (suc c ∷ cs) e = absurd (false-true (sym (ap (λ (b : Bool). b && isZero cs) (eqb·suc-zero c)) ∙ e))
-
-pub is-zero : (n : ℕ) → isZero (replicate n 0) ≡ true
-is-zero zero = refl
-is-zero (suc n) = is-zero n
 
 -- what the test of a remainder says
 pub test-divisible : (bytes : List ℕ) → isZero (remainder (bits bytes)) ≡ true → Divisible bytes

@@ -1,0 +1,103 @@
+-- An address in range is known by its time, so that of two of them one lies before the other or they are the same.
+-- Assumes nothing.
+use mathlib.Core.Path.{_≡_, refl, sym, ap, _∙_}
+use mathlib.Core.Bool.{Bool, true, false, cond, _&&_, _||_}
+use Prim.Native.Nat.{ℕ, _+_, _-_, _*_, _/_, _%_, _<_, _≤_}
+use native.Mathlib.Omega.{arith}
+use borrow.Author.Tests.{leb-true, ltb-false}
+use lib.Dec.{T, ltb, leb}
+use Rattle.outcome.specs.Table.Entries.{and-left, and-right, true-of, of-true}
+use Rattle.digits.specs.Digits.{decimal, twoDigits}
+use Rattle.digits.specs.Digits.One.{tens-lt, ones-lt, within, decimal-one}
+use Rattle.address.specs.declared.HeaderTime.{HeaderTime}
+use Rattle.address.specs.Address.{inProgramArea, inLeadIn, inRange}
+use Rattle.address.specs.Elapsed.{minutes, elapsed}
+
+-- a minute of the Lead-in Area, and the minutes that it stands for
+pub lead-in : (t : HeaderTime) → inLeadIn t ≡ true → (0xA0 ≤ t .0) × (twoDigits 59 (t .0 - 0xA0) ≡ true) × (minutes t ≡ decimal (t .0 - 0xA0))
+unfolding inLeadIn minutes
+lead-in t e =
+    let both = of-true (leb 0xA0 (t .0) && twoDigits 59 (t .0 - 0xA0)) e in (
+      leb-true 0xA0 (t .0) (true-of (leb 0xA0 (t .0)) (and-left (leb 0xA0 (t .0)) (twoDigits 59 (t .0 - 0xA0)) both)),
+      true-of (twoDigits 59 (t .0 - 0xA0)) (and-right (leb 0xA0 (t .0)) (twoDigits 59 (t .0 - 0xA0)) both),
+      rw e,
+    )
+
+module _ (t : HeaderTime) (h : inRange t ≡ true) where
+  parts : T ((inProgramArea t || inLeadIn t) && (twoDigits 59 (t .1) && twoDigits 74 (t .2)))
+  unfolding inRange
+  parts = of-true ((inProgramArea t || inLeadIn t) && (twoDigits 59 (t .1) && twoDigits 74 (t .2))) h
+
+  rest : T (twoDigits 59 (t .1) && twoDigits 74 (t .2))
+  rest = and-right (inProgramArea t || inLeadIn t) (twoDigits 59 (t .1) && twoDigits 74 (t .2)) parts
+
+  second-right : twoDigits 59 (t .1) ≡ true
+  second-right = true-of (twoDigits 59 (t .1)) (and-left (twoDigits 59 (t .1)) (twoDigits 74 (t .2)) rest)
+
+  frame-right : twoDigits 74 (t .2) ≡ true
+  frame-right = true-of (twoDigits 74 (t .2)) (and-right (twoDigits 59 (t .1)) (twoDigits 74 (t .2)) rest)
+
+  minute-right : T (inProgramArea t || inLeadIn t)
+  minute-right = and-left (inProgramArea t || inLeadIn t) (twoDigits 59 (t .1) && twoDigits 74 (t .2)) parts
+
+  -- any other minute
+  behind : inLeadIn t ≡ false → (twoDigits 99 (t .0) ≡ true) × (minutes t ≡ 60 + decimal (t .0))
+  unfolding inProgramArea minutes
+  behind e = (other (twoDigits 99 (t .0)) (inLeadIn t) e minute-right, rw e)
+    where
+      other : (a b : Bool) → b ≡ false → T (a || b) → a ≡ true
+      other true b e t = refl
+      other false true e t = sym e
+      other false false e t = absurd t
+
+-- two addresses in range with the same time are the same
+pub elapsed-one : (a b : HeaderTime) → inRange a ≡ true → inRange b ≡ true → elapsed a ≡ elapsed b → a ≡ b
+unfolding elapsed
+elapsed-one a b h k e = go (inLeadIn a) refl (inLeadIn b) refl
+  where
+    seconds : decimal (a .1) ≡ decimal (b .1) → a .1 ≡ b .1
+    seconds = decimal-one 59 59 (a .1) (b .1) (second-right a h) (second-right b k)
+
+    frames : decimal (a .2) ≡ decimal (b .2) → a .2 ≡ b .2
+    frames = decimal-one 74 74 (a .2) (b .2) (frame-right a h) (frame-right b k)
+
+    -- seconds and frames are below their bounds
+    small : (decimal (a .1) ≤ 59) × (decimal (b .1) ≤ 59) × (decimal (a .2) ≤ 74) × (decimal (b .2) ≤ 74)
+    small = (within 59 (a .1) (second-right a h), within 59 (b .1) (second-right b k), within 74 (a .2) (frame-right a h), within 74 (b .2) (frame-right b k))
+
+    all : a .0 ≡ b .0 → a .1 ≡ b .1 → a .2 ≡ b .2 → a ≡ b
+    all p q r = λ i. record { 0 = p i; 1 = q i; 2 = r i }
+
+    go : (x : Bool) → inLeadIn a ≡ x → (y : Bool) → inLeadIn b ≡ y → a ≡ b
+    go true p true q =
+        let bounds = small in
+        let (la, da, ma) = lead-in a p in
+        let (lb, db, mb) = lead-in b q in
+        let m : decimal (a .0 - 0xA0) ≡ decimal (b .0 - 0xA0) = omega arith in
+        let s : decimal (a .1) ≡ decimal (b .1) = omega arith in
+        let f : decimal (a .2) ≡ decimal (b .2) = omega arith in
+        let n : a .0 - 0xA0 ≡ b .0 - 0xA0 = decimal-one 59 59 (a .0 - 0xA0) (b .0 - 0xA0) da db m in
+        all (omega arith) (seconds s) (frames f)
+    go true p false q =
+        let bounds = small in
+        let (la, da, ma) = lead-in a p in
+        let (db, mb) = behind b k q in
+        absurd (omega (arith, within 59 (a .0 - 0xA0) da))
+    go false p true q =
+        let bounds = small in
+        let (da, ma) = behind a h p in
+        let (lb, db, mb) = lead-in b q in
+        absurd (omega (arith, within 59 (b .0 - 0xA0) db))
+    go false p false q =
+        let bounds = small in
+        let (da, ma) = behind a h p in
+        let (db, mb) = behind b k q in
+        let m : decimal (a .0) ≡ decimal (b .0) = omega arith in
+        let s : decimal (a .1) ≡ decimal (b .1) = omega arith in
+        let f : decimal (a .2) ≡ decimal (b .2) = omega arith in
+        all (decimal-one 99 99 (a .0) (b .0) da db m) (seconds s) (frames f)
+
+-- of two addresses in range one is earlier, or they are the same
+pub neither-earlier : (a b : HeaderTime) → inRange a ≡ true → inRange b ≡ true → ltb (elapsed a) (elapsed b) ≡ false → ltb (elapsed b) (elapsed a) ≡ false → a ≡ b
+neither-earlier a b h k p q =
+    elapsed-one a b h k (omega (arith, ltb-false (elapsed a) (elapsed b) p, ltb-false (elapsed b) (elapsed a) q))

@@ -1,0 +1,2 @@
+-- the digits of a Catalog Number, one a turn
+pub mod Digits

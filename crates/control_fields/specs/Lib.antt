@@ -1,0 +1,2 @@
+-- the fields that ten bytes can stand for
+pub mod Found

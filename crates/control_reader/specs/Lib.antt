@@ -1,0 +1,4 @@
+-- what reading answers
+pub mod Reading
+-- the code's order
+pub mod Inner

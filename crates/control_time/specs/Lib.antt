@@ -1,0 +1,2 @@
+-- the times in a Section's Control bytes
+pub mod Elapsed

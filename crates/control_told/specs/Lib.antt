@@ -1,0 +1,2 @@
+-- fields that a caller in another language gives
+pub mod Given

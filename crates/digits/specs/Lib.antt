@@ -1,0 +1,2 @@
+-- two decimal digits in a byte
+pub mod Digits
