@@ -1,4 +1,5 @@
 //! Document 01, Numbers that come back, with those of document 02. Its request 6 withdraws number 8: it is given to nothing else.
+//! Document 01, Numbers that come back; document 02, 5, for 19 to 21, and 12 for 25 to 27. Document 02, 6, withdraws number 8: it is given to nothing else.
 
 #[derive(Clone, Copy, Debug, PartialEq, Eq)]
 pub enum Refusal {
@@ -15,6 +16,9 @@ pub enum Refusal {
     WrongP { codeword: usize },
     WrongQ { codeword: usize },
     WrongFiller,
+    WrongNumber,
+    IllegalRun { run: usize },
+    NoHeader,
     WrongPasses,
     UnknownPlace,
     NoSync,
@@ -42,6 +46,9 @@ impl Refusal {
             WrongP { .. } => 13,
             WrongQ { .. } => 14,
             WrongFiller => 15,
+            WrongNumber => 19,
+            IllegalRun { .. } => 20,
+            NoHeader => 21,
             WrongPasses => 22,
             UnknownPlace => 23,
             NoSync => 24,
@@ -51,10 +58,11 @@ impl Refusal {
         }
     }
 
-    /// The value that comes with 13 and 14, the number of a codeword, and with 25 to 27, a bit position; no other number has one.
+    /// The value that comes with 13 and 14, the number of a codeword, with 20, the index of a run, and with 25 to 27, a bit position; no other number has one.
     pub fn value(self) -> Option<usize> {
         match self {
             WrongP { codeword } | WrongQ { codeword } => Some(codeword),
+            IllegalRun { run } => Some(run),
             WrongRun { bit } | WrongHeader { bit } | WrongWord { bit } => Some(bit),
             _ => None,
         }
