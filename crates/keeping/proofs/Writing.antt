@@ -1,13 +1,14 @@
 -- The invariant of the loop over all counts, and the ways out of keeping a capture.
 -- Assumes nothing.
 use mathlib.Core.Path.{_≡_, refl, sym, ap, ap₂, _∙_}
-use mathlib.Core.Bool.{Bool, true, false}
+use mathlib.Core.Bool.{Bool, true, false, cond}
 use mathlib.Core.List.{List, [], _∷_, _++_, append-assoc, append-nil}
 use Prim.Native.Nat.{ℕ, _+_, _*_, _/_, _%_, _<_, _≤_}
 use native.Mathlib.Numerals.{add-one}
 use native.Mathlib.Omega.{arith}
-use borrow.Author.Tests.{eq-eqb, ne-eqb, le-leb, lt-leb}
-use lib.ListN.{length, getD, take, drop, replicate, length-append, drop-of-length-le}
+use borrow.Author.Tests.{eqb-true, eq-eqb, ne-eqb, le-leb, lt-leb}
+use lib.Dec.{eqb}
+use lib.ListN.{length, getD, take, drop, replicate, length-append, length-replicate, drop-of-length-le}
 use lib.Seq.{drop-cons}
 use Rattle.outcome.specs.Bytes.{Bytes}
 use Rattle.outcome.specs.Say.{done, refused, outcome, cleared}
@@ -75,25 +76,39 @@ module _ {capture list : List ℕ} {last used i : ℕ} (short : length capture �
       ∙ ap written (kept-from-0 (countsOf capture) (counts-small capture b)) in
       record { used = w .count ∙ ap length e; is = w .is ∙ ap (filled 98304) e }
 
--- ---- the ways out
+-- ---- the ways out: the list is wiped first, and its length stays
 
-module _ (capture old : List ℕ) where
-  pub on-odd : (length capture % 2 ≡ 0 → ⊥) → outcome (refused 1 []) (cleared 98304 old) ≡ keeping capture old
+wiped-length : (right : ℕ) (old : List ℕ) → length (cleared right old) ≡ length old
+wiped-length right old = go (eqb (length old) right) refl
+  where
+    go : (t : Bool) → eqb (length old) right ≡ t → length (cond t (replicate right 0) old) ≡ length old
+    go true e = length-replicate {A = ℕ} right 0 ∙ sym (eqb-true (length old) right e)
+    go false e = refl
+
+module _ (capture old list : List ℕ) (wiped : list ≡ cleared 98304 old) where
+  same : length list ≡ length old
+  same = ap length wiped ∙ wiped-length 98304 old
+
+  pub on-odd : (length capture % 2 ≡ 0 → ⊥) → outcome (refused 1 []) list ≡ keeping capture old
   unfolding keeping
-  on-odd n = simp (ne-eqb (length capture % 2) 0 n)
+  on-odd n = ap (outcome (refused 1 [])) wiped ∙ simp (ne-eqb (length capture % 2) 0 n)
 
-  pub on-long : length capture % 2 ≡ 0 → 65536 < length capture → outcome (refused 1 []) (cleared 98304 old) ≡ keeping capture old
+  pub on-long : length capture % 2 ≡ 0 → 65536 < length capture → outcome (refused 1 []) list ≡ keeping capture old
   unfolding keeping
-  on-long e h = simp (eq-eqb (length capture % 2) 0 e, lt-leb (length capture) 65536 h)
+  on-long e h = ap (outcome (refused 1 [])) wiped ∙ simp (eq-eqb (length capture % 2) 0 e, lt-leb (length capture) 65536 h)
 
-  pub on-room : length capture % 2 ≡ 0 → length capture ≤ 65536 → (length old ≡ 98304 → ⊥)
-      → outcome (refused 2 []) (cleared 98304 old) ≡ keeping capture old
+  pub on-room : length capture % 2 ≡ 0 → length capture ≤ 65536 → (length list ≡ 98304 → ⊥) → outcome (refused 2 []) list ≡ keeping capture old
   unfolding keeping
-  on-room e h n = simp (eq-eqb (length capture % 2) 0 e, le-leb (length capture) 65536 h, ne-eqb (length old) 98304 n)
+  on-room e h n =
+      ap (outcome (refused 2 [])) wiped
+      ∙ simp (eq-eqb (length capture % 2) 0 e, le-leb (length capture) 65536 h, ne-eqb (length old) 98304 (λ l. n (same ∙ l)))
 
-  pub on-done : length capture % 2 ≡ 0 → length capture ≤ 65536 → length old ≡ 98304 → (used : ℕ) (new : List ℕ) → Wrote capture used new
+  pub is-ready : length capture % 2 ≡ 0 → length capture ≤ 65536 → length list ≡ 98304 → Ready capture list
+  is-ready e h n = record { even = e; short = h; zeros = wiped ∙ simp (eq-eqb (length old) 98304 (sym same ∙ n)) }
+
+  pub on-done : length capture % 2 ≡ 0 → length capture ≤ 65536 → length list ≡ 98304 → (used : ℕ) (new : List ℕ) → Wrote capture used new
       → outcome (done (used ∷ [])) new ≡ keeping capture old
   unfolding keeping
   on-done e h n used new w =
       ap₂ (λ (k : ℕ) (l : List ℕ). outcome (done (k ∷ [])) l) (w .used) (w .is)
-      ∙ simp (eq-eqb (length capture % 2) 0 e, le-leb (length capture) 65536 h, eq-eqb (length old) 98304 n)
+      ∙ simp (eq-eqb (length capture % 2) 0 e, le-leb (length capture) 65536 h, eq-eqb (length old) 98304 (sym same ∙ n))

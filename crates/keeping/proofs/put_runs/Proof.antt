@@ -1,4 +1,4 @@
--- `keeping::put_runs`: the loop's invariant is that the first i counts are in the list (`Writing`).
+-- `keeping::put_runs` meets its contract: the loop's invariant is that the first i counts are in the list (`Writing`).
 -- Assumes nothing.
 use Prim.Native.Nat.{ℕ, _-_, _/_}
 use mathlib.Core.Path.{sym, ap, _∙_}
@@ -9,11 +9,6 @@ use lib.ListN.{length, getD, length-replicate}
 use Rattle.keeping.proofs.Writing.{Writing, writing-none, writing-long, writing-room, writing-more, writing-all}
 use Rattle.keeping.proofs.put_runs.Statement.{statement}
 use Rattle.keeping.proofs.put_runs.Tie as tie
-use Rattle.keeping.proofs.put_runs.Reads as reads
-use Rattle.keeping.proofs.put_runs.Lts as lts
-use Rattle.counts.proofs.count_at.Reads as count-at-reads
-use Rattle.counts.proofs.ticks.Reads as ticks-reads
-use Rattle.keeping.proofs.put_number.Reads as put-number-reads
 
 abbrev Inv-loop : tie.InvT-loop
 Inv-loop capture list₀ last₀ used₀ i₀ list last used i = Writing capture list last used i
@@ -21,45 +16,32 @@ Inv-loop capture list₀ last₀ used₀ i₀ list last used i = Writing capture
 abbrev μ-loop : tie.MeasureT-loop
 μ-loop capture list₀ last₀ used₀ i₀ list last used i = length capture / 2 - i
 
--- src/lib.rt:45:5
 loop-holds : tie.Need-loop-holds Inv-loop μ-loop
 loop-holds c = search writing-none
 
--- src/lib.rt:46:13
 count-at-requires : tie.Need-count-at-requires Inv-loop μ-loop
 count-at-requires c κs = search needs
 
--- src/lib.rt:47:13
 ticks-requires : tie.Need-ticks-requires Inv-loop μ-loop
 ticks-requires c κs = search needs
 
--- src/lib.rt:48:9
 put-number-requires : tie.Need-put-number-requires Inv-loop μ-loop
 put-number-requires c κs = search writing-room
 
--- src/lib.rt:50:9
 add-i : tie.Need-add-i Inv-loop μ-loop
 add-i c = search needs
 
--- src/lib.rt:45:5
 loop-less : tie.Need-loop-less Inv-loop μ-loop
 loop-less c = search needs
 
--- src/lib.rt:45:5
 loop-again : tie.Need-loop-again Inv-loop μ-loop
 loop-again c = search writing-more
 
--- src/lib.rt:38:1
 same-length : tie.Need-same-length Inv-loop μ-loop
 same-length c = let p = c .before .before .before .before .pre in writing-long (p .short) (c .before .loop .inv) ∙ sym (ap length (p .zeros) ∙ length-replicate {A = ℕ} 98304 0)
 
--- each element is a byte
-byte : (c : tie.Start Inv-loop μ-loop) (i : ℕ) → Fits w8 (getD (c .args .capture .now) i 0)
-byte c i = search needs
-
--- src/lib.rt:38:1
 returns : tie.Need-returns Inv-loop μ-loop
-returns c = let p = c .before .before .before .before .pre in writing-all (p .short) (c .before .loop .inv) (λ i. byte (c .before .before .before .before) i .fits) (c .loop-test .left)
+returns c = let p = c .before .before .before .before .pre in writing-all (p .short) (c .before .loop .inv) (λ i. c .before .before .before .shared-slice-known .given i .fits) (c .loop-test .left)
 
 pub put-runs-spec : {M : Type 1} → statement M
 put-runs-spec =
