@@ -1,14 +1,12 @@
 -- The invariant of the loop over all counts, and the ways out of keeping a capture.
 -- Assumes nothing.
 use mathlib.Core.Path.{_≡_, refl, sym, ap, ap₂, _∙_}
-use mathlib.Core.Bool.{Bool, true, false, cond}
 use mathlib.Core.List.{List, [], _∷_, _++_, append-assoc, append-nil}
 use Prim.Native.Nat.{ℕ, _+_, _*_, _/_, _%_, _<_, _≤_}
 use native.Mathlib.Numerals.{add-one}
 use native.Mathlib.Omega.{arith}
-use borrow.Author.Tests.{eqb-true, eq-eqb, ne-eqb, le-leb, lt-leb}
-use lib.Dec.{eqb}
-use lib.ListN.{length, getD, take, drop, replicate, length-append, length-replicate, drop-of-length-le}
+use borrow.Author.Tests.{eq-eqb, ne-eqb, le-leb, lt-leb}
+use lib.ListN.{length, getD, take, drop, replicate, length-append, drop-of-length-le}
 use lib.Seq.{drop-cons}
 use Rattle.outcome.specs.Bytes.{Bytes}
 use Rattle.outcome.specs.Say.{done, refused, outcome, cleared}
@@ -17,7 +15,7 @@ use Rattle.captures.specs.Counts.Bytes.{counts-small, length-counts}
 use Rattle.captures.specs.Number.{shortest}
 use Rattle.captures.specs.Kept.{written, kept, runList, filled, keeping}
 use Rattle.captures.specs.Kept.One.{some-bytes}
-use Rattle.captures.specs.Kept.Filled.{length-filled, filled-more, kept-from-0}
+use Rattle.captures.specs.Kept.Filled.{length-filled, wiped-length, filled-more, kept-from-0}
 use Rattle.keeping.specs.Inner.Put.{Puts}
 use Rattle.keeping.specs.Inner.Wrote.{Ready, Wrote}
 
@@ -77,13 +75,6 @@ module _ {capture list : List ℕ} {last used i : ℕ} (short : length capture �
       record { used = w .count ∙ ap length e; is = w .is ∙ ap (filled 98304) e }
 
 -- ---- the ways out: the list is wiped first, and its length stays
-
-wiped-length : (right : ℕ) (old : List ℕ) → length (cleared right old) ≡ length old
-wiped-length right old = go (eqb (length old) right) refl
-  where
-    go : (t : Bool) → eqb (length old) right ≡ t → length (cond t (replicate right 0) old) ≡ length old
-    go true e = length-replicate {A = ℕ} right 0 ∙ sym (eqb-true (length old) right e)
-    go false e = refl
 
 module _ (capture old list : List ℕ) (wiped : list ≡ cleared 98304 old) where
   same : length list ≡ length old

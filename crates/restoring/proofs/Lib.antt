@@ -2,5 +2,7 @@
 pub mod Standing
 -- a count put into the capture
 pub mod Putting
--- the loop over all numbers, and the ways out
+-- the loop over all numbers
 pub mod Reading
+-- the ways out
+pub mod Ways

@@ -1,4 +1,4 @@
--- The invariant of the loop over all numbers, and the ways out of restoring a capture.
+-- The invariant of the loop over all numbers, and the ways out of it.
 -- Assumes nothing.
 use mathlib.Core.Path.{_≡_, refl, sym, ap, ap₂, _∙_}
 use mathlib.Core.List.{List, [], _∷_, _++_, append-assoc, append-nil}
@@ -82,6 +82,13 @@ reading-none list capture e =
 module _ {list capture : List ℕ} {last used at : ℕ} (r : Reading list capture last used at) where
   pub reading-long : length capture ≡ 65536
   reading-long = ap length (r .is) ∙ length-filled 65536 (r .front) (omega (arith, r .few, r .front-long))
+
+  -- the next number begins further on, and within the list
+  pub reading-on : (n k : ℕ) → at < length list → Stands list at n k → (0 < k) × (at + k ≤ length list)
+  reading-on n k h s = (
+    omega (arith, s .taken, some-bytes n .0),
+    omega (arith, ap length (s .is), length-append (shortest n) (drop (at + k) list), length-drop at list, s .taken, some-bytes n .0),
+  )
 
   pub reading-room : (used ≡ 65536 → ⊥) → used + 2 ≤ length capture
   reading-room n = omega (arith, r .count, r .few, reading-long)

@@ -1,6 +1,6 @@
 -- What the first bytes at a place show of the number that stands there.
 -- Assumes nothing.
-use mathlib.Core.Path.{_≡_, refl, sym, ap, ap₂, _∙_}
+use mathlib.Core.Path.{_≡_, refl, sym, ap, ap₂, _∙_, subst}
 use mathlib.Core.Logic.{_⊎_, inl, inr}
 use mathlib.Core.List.{List, [], _∷_, _++_}
 use Prim.Native.Nat.{ℕ, suc, _+_, _-_, _*_, _/_, _%_, _<_, _≤_}
@@ -12,7 +12,16 @@ use lib.Seq.{drop-cons, getD-drop}
 use Rattle.outcome.specs.First.Found.{lt-or-le}
 use Rattle.captures.specs.Number.{shortest}
 use Rattle.captures.specs.Number.Shortest.{Size, one, two, three, sized, shortest-1, shortest-2, shortest-3}
-use Rattle.restoring.specs.Inner.Leads.{ByteAt, Stands, NoneStands}
+use Rattle.restoring.specs.declared.Leading.{Leading}
+use Rattle.restoring.specs.declared.Leading.the-variants.{Number, Malformed}
+use Rattle.restoring.specs.Inner.Leads.{ByteAt, Stands, NoneStands, Leads}
+
+-- what an answer says
+pub says-number : (list : List ℕ) (at n k : ℕ) (q : Leading) → Leads list at q → q ≡ Number n k → Stands list at n k
+says-number list at n k q l e = subst (Leads list at) e l
+
+pub says-none : (list : List ℕ) (at : ℕ) (q : Leading) → Leads list at q → q ≡ Malformed → NoneStands list at
+says-none list at q l e = subst (Leads list at) e l
 
 -- behind the end there is 0
 pub byte-behind : (list : List ℕ) (i : ℕ) → length list ≤ i → ByteAt list i 0
@@ -117,17 +126,16 @@ module _ (list : List ℕ) (at : ℕ) where
 
   module _ (a : ℕ) (x : ByteAt list at a) (ka : 128 ≤ a) where
     -- a second group that says nothing
-    pub none-two : ByteAt list (at + 1) 0 → NoneStands list at
-    none-two y n rest small is = go (sized n)
+    pub none-two : (b : ℕ) → ByteAt list (at + 1) b → b ≡ 0 → NoneStands list at
+    none-two b y e n rest small is = go (sized n)
       where
         go : Size n → ⊥
         go (one k s) = omega (arith, x .is, first n rest (n ∷ []) is s)
         go (two k l s) = omega (arith, y .is, byte 1 n rest _ is s)
         go (three k s) = omega (arith, y .is, byte 1 n rest _ is s)
 
-    -- a third group that says nothing, or too much
-    pub none-three : (b : ℕ) → ByteAt list (at + 1) b → 128 ≤ b → (c : ℕ) → ByteAt list (at + 2) c → (1 ≤ c → c ≤ 3 → ⊥) → NoneStands list at
-    none-three b y kb c z h n rest small is = go (sized n)
+    third : (b : ℕ) → ByteAt list (at + 1) b → 128 ≤ b → (c : ℕ) → ByteAt list (at + 2) c → (1 ≤ c → c ≤ 3 → ⊥) → NoneStands list at
+    third b y kb c z h n rest small is = go (sized n)
       where
         go : Size n → ⊥
         go (one k s) = omega (arith, x .is, first n rest (n ∷ []) is s)
@@ -135,3 +143,11 @@ module _ (list : List ℕ) (at : ℕ) where
         go (three k s) =
             let o : c ≡ n / 16384 = z .is ∙ byte 2 n rest _ is s in
             h (omega arith) (omega arith)
+
+    -- a third group that says nothing
+    pub none-three : (b : ℕ) → ByteAt list (at + 1) b → 128 ≤ b → (c : ℕ) → ByteAt list (at + 2) c → c ≡ 0 → NoneStands list at
+    none-three b y kb c z e = third b y kb c z (λ h k. omega arith)
+
+    -- a third group that says too much, or goes on
+    pub none-above : (b : ℕ) → ByteAt list (at + 1) b → 128 ≤ b → (c : ℕ) → ByteAt list (at + 2) c → 3 < c → NoneStands list at
+    none-above b y kb c z e = third b y kb c z (λ h k. omega arith)

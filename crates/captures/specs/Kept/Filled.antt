@@ -1,16 +1,28 @@
 -- A buffer that is filled from the front, the rest zero; and the numbers of a capture as the code goes over them, from a count of 0 on.
 -- Assumes nothing.
 use mathlib.Core.Path.{_≡_, refl, sym, ap, ap₂, _∙_}
+use mathlib.Core.Bool.{Bool, true, false, cond}
 use mathlib.Core.List.{List, [], _∷_, _++_, append-assoc}
 use Prim.Native.Nat.{ℕ, zero, suc, _+_, _-_, _%_, _<_, _≤_}
 use native.Mathlib.Omega.{arith}
+use borrow.Author.Tests.{eqb-true}
+use lib.Dec.{eqb}
 use lib.ListN.{length, take, drop, replicate, length-append, length-replicate}
 use lib.Seq.{take-at, drop-append-add}
+use Rattle.outcome.specs.Say.{cleared}
 use Rattle.captures.specs.Counts.{Counts, distances, edges, onward}
 use Rattle.captures.specs.Kept.{kept, restored, filled}
 
 pub length-filled : (room : ℕ) (l : List ℕ) → length l ≤ room → length (filled room l) ≡ room
 length-filled room l h = omega (arith, length-append l (replicate (room - length l) 0), length-replicate {A = ℕ} (room - length l) 0)
+
+-- a buffer that is wiped stays as long
+pub wiped-length : (right : ℕ) (old : List ℕ) → length (cleared right old) ≡ length old
+wiped-length right old = go (eqb (length old) right) refl
+  where
+    go : (t : Bool) → eqb (length old) right ≡ t → length (cond t (replicate right 0) old) ≡ length old
+    go true e = length-replicate {A = ℕ} right 0 ∙ sym (eqb-true (length old) right e)
+    go false e = refl
 
 drop-zeros : (k n : ℕ) → k ≤ n → drop {A = ℕ} k (replicate n 0) ≡ replicate (n - k) 0
 drop-zeros zero n h = ap (λ (m : ℕ). replicate m 0) (all n)

@@ -3,9 +3,7 @@
 use Prim.Native.Nat.{ℕ, _-_, _/_}
 use mathlib.Core.Path.{sym, ap, _∙_}
 use borrow.Author.Needs.{needs}
-use mir.Syntax.{w8}
-use mir.Val.{Fits}
-use lib.ListN.{length, getD, length-replicate}
+use lib.ListN.{length, length-replicate}
 use Rattle.keeping.proofs.Writing.{Writing, writing-none, writing-long, writing-room, writing-more, writing-all}
 use Rattle.keeping.proofs.put_runs.Statement.{statement}
 use Rattle.keeping.proofs.put_runs.Tie as tie
