@@ -15,6 +15,7 @@ use Rattle.captures.specs.Counts.{countsOf, runsOf, bitsIn, legal}
 use Rattle.captures.specs.Kept.{rightCapture, filled}
 pub mod Sizes
 pub mod Headers
+pub mod Edges
 
 -- the Channel bits of edges at these distances: each edge is a ONE with its ZEROs after it, and nothing is known after the last
 unfoldable pub channel : List ℕ → List ℕ
