@@ -91,7 +91,7 @@ pub few-edges : {w : List ℕ} {k : ℕ} → EdgeThere w k → k ≤ 32768
 few-edges {w} t = omega (arith, t .within, t .short, runs-long w)
 
 module _ {ds bits out : List ℕ} {k end q j : ℕ} (l : Legal ds) (within : end ≤ length bits) (room : end ≤ 524288) (d : Drawing ds bits k end out q j)
-  (h : q < end) where
+    (h : q < end) where
   es : List ℕ
   es = drop j ds
 

@@ -129,6 +129,12 @@ all-legal (d ∷ ds) h =
     let p = leb-and (leb 3 (bitsIn d)) (leb (bitsIn d) 11) (h 0 (omega arith)) in
     (leb-true 3 (bitsIn d) (p .0), leb-true (bitsIn d) 11 (p .1), all-legal ds (λ j k. h (suc j) (omega arith)))
 
+pub illegal-within : (w : List ℕ) (i : ℕ) → i ≡ firstIllegal (runs w) → i ≤ length w / 2
+unfolding firstIllegal
+illegal-within w i e =
+    let f = first-below (λ j. not (legal (getD (runs w) j 0))) (length (runs w)) in
+    omega (arith, f .within, runs-long w)
+
 pub none-illegal : (ds : List ℕ) → length ds ≤ firstIllegal ds → Legal ds
 unfolding firstIllegal
 none-illegal ds h = all-legal ds (λ j k. by j k (legal (getD ds j 0)) refl)

@@ -78,10 +78,14 @@ module _ {w : List ℕ} {k : ℕ} (l : LegalCapture w) (s : Searched w k) where
   pub on-nowhere : length w / 2 ≤ k + 3 → firstHeader (channel (runs w)) ≡ length (channel (runs w))
   on-nowhere h =
       let m = legal-drop k (runs w) (l .legal) in
-      omega
-      (arith, header-from k (runs w) (l .legal) (s .upto) (s .none),
-      header-nowhere (channel (drop k (runs w))) (few-runs (drop k (runs w)) m (omega (arith, runs-long w, length-drop k (runs w)))),
-      length-channel (drop k (runs w)) m, length-channel (runs w) (l .legal), bits-parted k (runs w))
+      omega (
+        arith,
+        header-from k (runs w) (l .legal) (s .upto) (s .none),
+        header-nowhere (channel (drop k (runs w))) (few-runs (drop k (runs w)) m (omega (arith, runs-long w, length-drop k (runs w)))),
+        length-channel (drop k (runs w)) m,
+        length-channel (runs w) (l .legal),
+        bits-parted k (runs w),
+      )
 
 -- ---- how many bits there are from edge k on
 

@@ -51,9 +51,12 @@ frames-packed new bits n b l h few e =
 
     long : length used ≡ 8 * bytesFor n
     long =
-        omega
-        (arith, length-append (take (588 * n) bits) (replicate (8 * bytesFor n - 588 * n) 0), length-take-le (588 * n) bits h,
-        length-replicate {A = ℕ} (8 * bytesFor n - 588 * n) 0)
+        omega (
+          arith,
+          length-append (take (588 * n) bits) (replicate (8 * bytesFor n - 588 * n) 0),
+          length-take-le (588 * n) bits h,
+          length-replicate {A = ℕ} (8 * bytesFor n - 588 * n) 0,
+        )
 
     all : 524288 - 588 * n ≡ 8 * bytesFor n - 588 * n + 8 * (65536 - bytesFor n)
     all = omega arith
@@ -152,7 +155,7 @@ module _ (capture old frames : List ℕ) (wiped : frames ≡ cleared 65536 old) 
             pub edge-there : EdgeThere capture j
             edge-there = record { short = h; legal = legal; within = omega (arith, at .within) }
 
-            from : List ℕ
+            abbrev from : List ℕ
             from = channel (drop j (runs capture))
 
             bits-are : bits ≡ channel (runs capture)
@@ -163,22 +166,23 @@ module _ (capture old frames : List ℕ) (wiped : frames ≡ cleared 65536 old) 
             place = ap firstHeader bits-are ∙ at .is
 
             behind : drop (firstHeader bits) bits ≡ from
-            unfolding from
             behind = ap₂ (drop {A = ℕ}) place bits-are ∙ drop-runs j (runs capture) legal (omega (arith, at .within))
 
             few : length from ≤ 360449
-            unfolding from
             few =
-                omega
-                (arith, length-channel (drop j (runs capture)) (legal-drop j (runs capture) legal),
-                bits-at-most (drop j (runs capture)) (legal-drop j (runs capture) legal), length-drop j (runs capture), runs-long capture)
+                omega (
+                  arith,
+                  length-channel (drop j (runs capture)) (legal-drop j (runs capture) legal),
+                  bits-at-most (drop j (runs capture)) (legal-drop j (runs capture) legal),
+                  length-drop j (runs capture),
+                  runs-long capture,
+                )
 
             inside : firstHeader bits < length bits
             inside = omega (arith, place, ap length bits-are, length-channel (runs capture) legal, bits-parted j (runs capture))
 
             module _ (m : ℕ) (g : m ≡ length from / 588) where
               pub frames-due : FramesDue capture j (588 * m) frames
-              unfolding from
               frames-due =
                   record {
                     there = edge-there;
@@ -196,7 +200,7 @@ module _ (capture old frames : List ℕ) (wiped : frames ≡ cleared 65536 old) 
 
               pub on-done : (new : List ℕ) → Bytes new → FramesPut capture j (588 * m) new
                   → outcome (done ((147 * m + 1) / 2 ∷ m ∷ [])) new ≡ replaying capture old
-              unfolding from framesOf packed bits
+              unfolding framesOf packed bits
               on-done new w put =
                   let said : headerSay bits (firstHeader bits) ≡ done (bytesFor (framesFrom bits (firstHeader bits)) ∷ framesFrom bits (firstHeader bits) ∷ [])
                   = simp (lt-ltb (firstHeader bits) (length bits) inside) in

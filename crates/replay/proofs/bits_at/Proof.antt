@@ -4,35 +4,25 @@ use Rattle.replay.proofs.Legality.{end-bits, run-bits}
 use borrow.Author.Needs.{needs}
 use Rattle.replay.proofs.bits_at.Statement.{statement}
 use Rattle.replay.proofs.bits_at.Tie as tie
-use Rattle.replay.proofs.bits_at.Reads as reads
-use Rattle.replay.proofs.bits_at.Lts as lts
-use Rattle.edges.proofs.run_at.Reads as run-at-reads
 
--- src/lib.rt:28:9
 run-at-requires : tie.Need-run-at-requires
 run-at-requires c κs = search needs
 
--- src/lib.rt:29:19
 enum-known-step : tie.Need-enum-known-step
 enum-known-step c = search needs
 
--- src/lib.rt:30:9
 enum-told : tie.Need-enum-told
 enum-told c = search needs
 
--- src/lib.rt:30:9
 returns : tie.Need-returns
 returns c = end-bits _ _ _ (c .before .before .run-at .ensures) (c .enum-told .given .1)
 
--- src/lib.rt:32:6
 cast-result : tie.Need-cast-result
 cast-result c = search needs
 
--- src/lib.rt:32:6
 add-result : tie.Need-add-result
 add-result c = search needs
 
--- src/lib.rt:25:1
 returns-2 : tie.Need-returns-2
 returns-2 c = run-bits _ _ _ (c .before .before .before .run-at .ensures) _ (c .before .step .given .1)
 

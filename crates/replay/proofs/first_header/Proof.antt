@@ -7,9 +7,6 @@ use Rattle.replay.proofs.Searching.{Searched, searched-none, searched-w
 use borrow.Author.Needs.{needs}
 use Rattle.replay.proofs.first_header.Statement.{statement}
 use Rattle.replay.proofs.first_header.Tie as tie
-use Rattle.replay.proofs.first_header.Reads as reads
-use Rattle.replay.proofs.first_header.Lts as lts
-use Rattle.replay.proofs.begins_at.Reads as begins-at-reads
 
 abbrev Inv-loop : tie.InvT-loop
 Inv-loop capture k₀ k = Searched capture k
@@ -17,35 +14,27 @@ Inv-loop capture k₀ k = Searched capture k
 abbrev μ-loop : tie.MeasureT-loop
 μ-loop capture k₀ k = length capture / 2 - k
 
--- src/lib.rt:78:5
 loop-holds : tie.Need-loop-holds Inv-loop μ-loop
 loop-holds c = search searched-none
 
--- src/lib.rt:78:11
 add-loop : tie.Need-add-loop Inv-loop μ-loop
 add-loop c = omega (arith, searched-within (c .loop .inv))
 
--- src/lib.rt:79:13
 begins-at-requires : tie.Need-begins-at-requires Inv-loop μ-loop
 begins-at-requires c κs = search three-there
 
--- src/lib.rt:81:13
 returns : tie.Need-returns Inv-loop μ-loop
 returns c = search on-begins
 
--- src/lib.rt:83:9
 add-k : tie.Need-add-k Inv-loop μ-loop
 add-k c = search needs
 
--- src/lib.rt:78:5
 loop-less : tie.Need-loop-less Inv-loop μ-loop
 loop-less c = search needs
 
--- src/lib.rt:78:5
 loop-again : tie.Need-loop-again Inv-loop μ-loop
 loop-again c = search searched-more
 
--- src/lib.rt:73:1
 returns-2 : tie.Need-returns-2 Inv-loop μ-loop
 returns-2 c = search on-nowhere
 

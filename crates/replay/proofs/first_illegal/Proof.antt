@@ -7,9 +7,6 @@ use Rattle.replay.proofs.Legality.{Passed, passed-none, passed-within, 
 use borrow.Author.Needs.{needs}
 use Rattle.replay.proofs.first_illegal.Statement.{statement}
 use Rattle.replay.proofs.first_illegal.Tie as tie
-use Rattle.replay.proofs.first_illegal.Reads as reads
-use Rattle.replay.proofs.first_illegal.Lts as lts
-use Rattle.replay.proofs.bits_at.Reads as bits-at-reads
 
 abbrev Inv-loop : tie.InvT-loop
 Inv-loop capture i₀ i = Passed capture i
@@ -17,39 +14,30 @@ Inv-loop capture i₀ i = Passed capture i
 abbrev μ-loop : tie.MeasureT-loop
 μ-loop capture i₀ i = length capture / 2 - i
 
--- src/lib.rt:40:5
 loop-holds : tie.Need-loop-holds Inv-loop μ-loop
 loop-holds c = search passed-none
 
--- src/lib.rt:40:11
 add-loop : tie.Need-add-loop Inv-loop μ-loop
 add-loop c = omega (arith, passed-within (c .loop .inv))
 
--- src/lib.rt:41:13
 bits-at-requires : tie.Need-bits-at-requires Inv-loop μ-loop
 bits-at-requires c κs = search needs
 
--- src/lib.rt:43:13
 returns : tie.Need-returns Inv-loop μ-loop
 returns c = search on-few
 
--- src/lib.rt:46:13
 returns-2 : tie.Need-returns-2 Inv-loop μ-loop
 returns-2 c = search on-many
 
--- src/lib.rt:48:9
 add-i : tie.Need-add-i Inv-loop μ-loop
 add-i c = search needs
 
--- src/lib.rt:40:5
 loop-less : tie.Need-loop-less Inv-loop μ-loop
 loop-less c = search needs
 
--- src/lib.rt:40:5
 loop-again : tie.Need-loop-again Inv-loop μ-loop
 loop-again c = search passed-more
 
--- src/lib.rt:36:1
 returns-3 : tie.Need-returns-3 Inv-loop μ-loop
 returns-3 c = search passed-all
 

@@ -10,10 +10,6 @@ use Rattle.replay.proofs.Drawing.{Drawing, drawing-none, few-edges, dra
 use borrow.Author.Needs.{needs}
 use Rattle.replay.proofs.put_frames.Statement.{statement}
 use Rattle.replay.proofs.put_frames.Tie as tie
-use Rattle.replay.proofs.put_frames.Reads as reads
-use Rattle.replay.proofs.put_frames.Lts as lts
-use Rattle.replay.proofs.bits_at.Reads as bits-at-reads
-use Rattle.replay.proofs.put_one.Reads as put-one-reads
 
 abbrev Inv-loop : tie.InvT-loop
 Inv-loop capture k end out₀ q₀ j₀ out q j = Drawing (runs capture) (channel (drop k (runs capture))) k end out q j
@@ -21,58 +17,49 @@ Inv-loop capture k end out₀ q₀ j₀ out q j = Drawing (runs capture) (channe
 abbrev μ-loop : tie.MeasureT-loop
 μ-loop capture k end out₀ q₀ j₀ out q j = end - q
 
--- src/lib.rt:119:5
 loop-holds : tie.Need-loop-holds Inv-loop μ-loop
 loop-holds c = search drawing-none
 
--- src/lib.rt:120:9
 put-one-requires : tie.Need-put-one-requires Inv-loop μ-loop
-put-one-requires c κs = 
+put-one-requires c κs =
     let p = c .before .before .before .before .before .pre in
     drawing-room (p .there .legal) (p .within) (p .room) (c .before .before .loop .inv) (c .before .loop-test .taken)
 
--- src/lib.rt:121:14
 bits-at-requires : tie.Need-bits-at-requires Inv-loop μ-loop
 bits-at-requires c κs = search needs
 
--- src/lib.rt:121:9
 add-q : tie.Need-add-q Inv-loop μ-loop
-add-q c = 
+add-q c =
     let turn = c .before .before .before .before .before in
     let p = turn .before .before .before .before .pre in
     omega (arith, turn .before .loop .inv .near, p .room, b-some (p .there .legal) (p .within) (p .room) (turn .before .loop .inv) (turn .loop-test .taken) _ (c .bits-at .ensures))
 
--- src/lib.rt:122:9
 add-j : tie.Need-add-j Inv-loop μ-loop
-add-j c = 
+add-j c =
     let turn = c .before .before .before .before .before in
     let p = turn .before .before .before .before .pre in
     omega (arith, turn .before .loop .inv .near, turn .before .loop .inv .few, p .room, few-edges (p .there))
 
--- src/lib.rt:119:5
 loop-less : tie.Need-loop-less Inv-loop μ-loop
-loop-less c = 
+loop-less c =
     let turn = c .before .before .before .before .before in
     let p = turn .before .before .before .before .pre in
     omega (arith, turn .loop-test .taken, b-some (p .there .legal) (p .within) (p .room) (turn .before .loop .inv) (turn .loop-test .taken) _ (c .bits-at .ensures))
 
--- src/lib.rt:119:5
 loop-again : tie.Need-loop-again Inv-loop μ-loop
-loop-again c = 
+loop-again c =
     let turn = c .before .before .before .before .before in
     let p = turn .before .before .before .before .pre in
     drawing-more (p .there .legal) (p .within) (p .room) (turn .before .loop .inv) (turn .loop-test .taken) _ (c .bits-at .ensures) _
     (c .before .before .before .put-one .ensures)
 
--- src/lib.rt:113:1
 same-length : tie.Need-same-length Inv-loop μ-loop
-same-length c = 
+same-length c =
     let p = c .before .before .before .before .pre in
     c .before .loop .inv .long ∙ sym (ap length (p .zeros) ∙ length-replicate {A = ℕ} 65536 0)
 
--- src/lib.rt:113:1
 returns : tie.Need-returns Inv-loop μ-loop
-returns c = 
+returns c =
     let p = c .before .before .before .before .pre in
     drawing-all (p .within) (p .room) (c .before .loop .inv) (c .loop-test .left)
 
