@@ -1,5 +1,4 @@
 //! Document 01, Numbers that come back, with those of document 02. Its request 6 withdraws number 8: it is given to nothing else.
-//! Document 01, Numbers that come back; document 02, 5, for 19 to 21, and 12 for 25 to 27. Document 02, 6, withdraws number 8: it is given to nothing else.
 
 #[derive(Clone, Copy, Debug, PartialEq, Eq)]
 pub enum Refusal {

@@ -3,6 +3,7 @@ mod alignments;
 mod batches;
 mod circ_running;
 mod codewords;
+mod edge_captures;
 mod elements;
 mod frames;
 mod judging;
