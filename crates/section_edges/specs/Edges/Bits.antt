@@ -10,7 +10,6 @@ use lib.Dec.{leb}
 use lib.ListN.{replicate}
 use Rattle.bits.specs.Binary.{Binary}
 use Rattle.words.specs.RunRule.{gaps}
-use Rattle.merging.specs.Rule.{header}
 use Rattle.captures.specs.Counts.{Counts, bitsIn}
 use Rattle.replaying.specs.Replay.{channel}
 use Rattle.replaying.specs.Replay.Sizes.{Legal}
@@ -59,14 +58,16 @@ legal-run z d rest e h k =
     let q = both (leb 2 z) (leb z 10) (p .0) in
     (omega (arith, leb-true 2 z (q .0), ticks-bits d (suc z) h k), omega (arith, leb-true z 10 (q .1), ticks-bits d (suc z) h k), p .1)
 
-pub gaps-legal : (z : ℕ) (bs ds : List ℕ) → gaps z (bs ++ header) ≡ true → Ticks ds (gapsFrom z bs) → Legal ds
+pub gaps-legal : (z : ℕ) (bs ds rest : List ℕ) → gaps z (bs ++ (1 ∷ rest)) ≡ true → Ticks ds (gapsFrom z bs) → Legal ds
 unfolding gapsFrom
-gaps-legal z [] [] e t = absurd t
-gaps-legal z [] (d ∷ []) e t = let l = legal-run z d _ e (t .0) (t .1) in (l .0, l .1, tt)
-gaps-legal z [] (d ∷ f ∷ ds) e t = absurd (t .2)
-gaps-legal z (zero ∷ bs) ds e t = gaps-legal (suc z) bs ds e t
-gaps-legal z (suc b ∷ bs) [] e t = absurd t
-gaps-legal z (suc b ∷ bs) (d ∷ ds) e t = let l = legal-run z d (gaps 0 (bs ++ header)) e (t .0) (t .1) in (l .0, l .1, gaps-legal 0 bs ds (l .2) (t .2))
+gaps-legal z [] [] rest e t = absurd t
+gaps-legal z [] (d ∷ []) rest e t = let l = legal-run z d (gaps 0 rest) e (t .0) (t .1) in (l .0, l .1, tt)
+gaps-legal z [] (d ∷ f ∷ ds) rest e t = absurd (t .2)
+gaps-legal z (zero ∷ bs) ds rest e t = gaps-legal (suc z) bs ds rest e t
+gaps-legal z (suc b ∷ bs) [] rest e t = absurd t
+gaps-legal z (suc b ∷ bs) (d ∷ ds) rest e t =
+    let l = legal-run z d (gaps 0 (bs ++ (1 ∷ rest))) e (t .0) (t .1) in
+    (l .0, l .1, gaps-legal 0 bs ds rest (l .2) (t .2))
 
 -- and are told apart by 16 bits
 pub legal-counts : (ds : List ℕ) → Legal ds → Counts ds

@@ -41,11 +41,11 @@ turned : (bits ds : List ℕ) → Binary bits → starts header (bits ++ header)
 unfolding gapsOf
 turned [] ds b s h r t = absurd (omega arith)
 turned (zero ∷ bs) ds b s h r t = never (sym s)
-turned (suc zero ∷ bs) ds b s h r t = record { channel-is = gaps-channel 0 bs ds (b .1) t; legal = gaps-legal 0 bs ds r t }
+turned (suc zero ∷ bs) ds b s h r t = record { channel-is = gaps-channel 0 bs ds (b .1) t; legal = gaps-legal 0 bs ds (drop 1 header) r t }
 turned (suc (suc x) ∷ bs) ds b s h r t = absurd (omega (arith, b .0))
 
 module _ (sections ds : List ℕ) (n : ℕ) (bytes : Bytes sections) (long : length sections ≡ 7203 * n) (some : 1 ≤ n)
-  (kept : Kept (unpack sections ++ header) n) (t : Ticks ds (gapsOf (unpack sections))) where
+    (kept : Kept (unpack sections ++ header) n) (t : Ticks ds (gapsOf (unpack sections))) where
   bits-long : length (unpack sections) ≡ 57624 * n
   bits-long = omega (arith, length-unpack sections)
 

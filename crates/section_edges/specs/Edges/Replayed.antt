@@ -52,7 +52,7 @@ none-illegal ds l =
     (record { within = omega arith; before = λ i h e. never (legal-at ds i l h) e; holds = λ h. absurd (omega arith) }))
 
 module _ (sections ds old : List ℕ) (c n : ℕ) (bytes : Bytes sections) (long : length sections ≡ 7203 * n) (some : 1 ≤ n)
-  (kept : Kept (unpack sections ++ header) n) (t : Ticks ds (gapsOf (unpack sections))) (h : c < 65536) (few : length ds < 32768) (right : length old ≡ 65536) where
+    (kept : Kept (unpack sections ++ header) n) (t : Ticks ds (gapsOf (unpack sections))) (h : c < 65536) (few : length ds < 32768) (right : length old ≡ 65536) where
   legal-ds : Legal ds
   legal-ds = all-turned sections ds n bytes long some kept t .legal
 
@@ -80,9 +80,12 @@ module _ (sections ds old : List ℕ) (c n : ℕ) (bytes : Bytes sections) (long
       let l : length ds ≤ firstIllegal ds = omega (arith, none-illegal ds legal-ds) in
       let p : firstHeader (channel ds) < length (channel ds)
       = omega (arith, header-first sections ds n bytes long some kept t, bits-in-all sections ds n bytes long some kept t) in
+      let right-lengths : replaySay capture old
+      ≡ runsSay (runsOf (countsOf capture)) (firstIllegal (runsOf (countsOf capture)))
+      (headerSay (channelOf (countsOf capture)) (firstHeader (channelOf (countsOf capture))))
+      = simp (eq-eqb (length capture % 2) 0 e, le-leb (length capture) 65536 k, eq-eqb (length old) 65536 right) in
       let first : replaySay capture old ≡ runsSay ds (firstIllegal ds) (headerSay (channel ds) (firstHeader (channel ds)))
-      = simp (eq-eqb (length capture % 2) 0 e, le-leb (length capture) 65536 k, eq-eqb (length old) 65536 right)
-      ∙ ap₂ (λ (rs bs : List ℕ). runsSay rs (firstIllegal rs) (headerSay bs (firstHeader bs))) runs-are bits-are in
+      = right-lengths ∙ ap₂ (λ (rs bs : List ℕ). runsSay rs (firstIllegal rs) (headerSay bs (firstHeader bs))) runs-are bits-are in
       let second : runsSay ds (firstIllegal ds) (headerSay (channel ds) (firstHeader (channel ds))) ≡ headerSay (channel ds) (firstHeader (channel ds))
       = simp (le-ltb (firstIllegal ds) (length ds) l) in
       let third : headerSay (channel ds) (firstHeader (channel ds))
