@@ -154,7 +154,14 @@ mod tests {
     #[test]
     fn malformed_numbers() {
         let mut out = vec![1; CAPTURE];
-        for list in [&[128][..], &[128, 0], &[255, 128], &[128, 128, 0], &[128, 128, 4], &[128, 128, 128, 1]] {
+        for list in [
+            &[128][..],
+            &[128, 0],
+            &[255, 128],
+            &[128, 128, 0],
+            &[128, 128, 4],
+            &[128, 128, 128, 1],
+        ] {
             assert_eq!(capture_of(list, &mut out), Err(WrongNumber), "{list:?}");
         }
         assert_eq!(capture_of(&[0; EDGES], &mut out), Ok(CAPTURE));
@@ -166,7 +173,10 @@ mod tests {
         let mut out = vec![1; CAPTURE];
         assert_eq!(replay(&capture(&[7]), &mut out), Err(NoHeader));
         assert_eq!(replay(&capture(&[0, 88, 176]), &mut out), Err(NoHeader));
-        assert_eq!(replay(&capture(&[0, 88, 176, 200]), &mut out), Ok(Replayed { used: 0, frames: 0 }));
+        assert_eq!(
+            replay(&capture(&[0, 88, 176, 200]), &mut out),
+            Ok(Replayed { used: 0, frames: 0 })
+        );
         assert_eq!(replay(&capture(&[0, 88, 180, 195]), &mut out), Err(IllegalRun { run: 1 }));
     }
 }

@@ -1,10 +1,12 @@
 //! The proved crates, by the functions of crate `exports`. Each hands back the number of its answer, 0 or document 01's number
 //! of the refusal, and puts the values that come with it into lent memory, with zeros behind them.
 
+mod captures;
 mod runs;
 mod sectors;
 mod words;
 
+pub use captures::*;
 pub use runs::*;
 pub use sectors::*;
 pub use words::*;
