@@ -12,7 +12,6 @@ use lib.Seq.{take-all, take-add, take-suc, drop-cons, length-take-le}
 use Rattle.outcome.specs.Bytes.{Bytes}
 use Rattle.outcome.specs.Bytes.Kept.{bytes-take}
 use Rattle.field.specs.Field.{power, mul}
-use Rattle.field.specs.Field.Linear.{mul-zero-l}
 use Rattle.codeword.specs.Code.{sum}
 use Rattle.codeword.specs.Code.Sums.{sum-append}
 use Rattle.codeword.specs.Code.Distance.{sum-zeros}

@@ -20,7 +20,7 @@ use Rattle.field.specs.Field.Product.{mul-assoc, mul-byte, mul-power-add}
 use Rattle.codeword.specs.Code.{sum}
 use Rattle.dividing.specs.Inner.Register.{fourOf, entryOf, entries}
 use Rattle.dividing.specs.Inner.Rows.{row, rows, upward, downward}
-use Rattle.dividing.proofs.Digits.{four, bytes-four, fourOf-packed, sum-xor}
+use Rattle.dividing.proofs.Digits.{bytes-four, fourOf-packed, sum-xor}
 
 -- ---- x times some bytes
 

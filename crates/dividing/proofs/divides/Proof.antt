@@ -1,7 +1,6 @@
 -- `dividing::divides` meets its contract: a word of which nothing is left is a codeword (`clean`). The table is computed.
 -- Assumes nothing.
 use mathlib.Core.Path.{_≡_, refl}
-use mathlib.Core.Bool.{true, false}
 use Prim.Native.Nat.{ℕ}
 use native.Mathlib.Omega.{arith}
 use Rattle.field.specs.Field.{timesAlpha, mulBits, mul}

@@ -1,7 +1,6 @@
 -- `filling::marks::unmarked` meets its contract: where nothing was met before i, as many are marked from there on as in all (`Seen`).
 -- Assumes nothing.
 use Prim.Native.Nat.{_-_}
-use native.Mathlib.Omega.{arith}
 use borrow.Author.Needs.{needs}
 use lib.ListN.{length}
 use Rattle.filling.proofs.Look.{Seen, seen-none, seen-more, seen-all}
