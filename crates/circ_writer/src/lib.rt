@@ -71,7 +71,7 @@ fn place(frame: &[u8]) -> [u8; 28]
 fn fill_q(rows: [u8; 28]) -> [u8; 28]
     ensures { λ r. ⌜ r ≡ withQ qOf rows ⌝ }
 {
-    let q = dividing::parity_at_12(rows);
+    let q = generator::parity_at_12(rows);
     let mut word = rows;
     word[12] = q[0];
     word[13] = q[1];
@@ -84,7 +84,7 @@ fn fill_q(rows: [u8; 28]) -> [u8; 28]
 fn fill_p(rows: [u8; 28]) -> [u8; 32]
     ensures { λ r. ⌜ r ≡ withP pOf rows ⌝ }
 {
-    let p = dividing::parity_at_end(&rows);
+    let p = generator::parity_at_end(&rows);
     let mut word = [0u8; 32];
     outcome::copy(&p, &mut word[28..]);
     outcome::copy(&rows, &mut word[..28]);

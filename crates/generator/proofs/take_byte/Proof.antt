@@ -1,9 +1,9 @@
--- `dividing::take_byte` meets its contract: the first of five bytes counts as its entry does (`byte-in`).
+-- `generator::take_byte` meets its contract: the first of five bytes counts as its entry does (`byte-in`).
 -- Assumes nothing.
-use Rattle.dividing.proofs.Divided.{byte-in}
+use Rattle.generator.proofs.Divided.{byte-in}
 use borrow.Author.Needs.{needs}
-use Rattle.dividing.proofs.take_byte.Statement.{statement}
-use Rattle.dividing.proofs.take_byte.Tie as tie
+use Rattle.generator.proofs.take_byte.Statement.{statement}
+use Rattle.generator.proofs.take_byte.Tie as tie
 
 mul-next : tie.Need-mul-next
 mul-next c = search needs

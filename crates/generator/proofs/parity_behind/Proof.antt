@@ -1,9 +1,9 @@
--- `dividing::parity_behind` meets its contract: what is left of the word with four zeros behind it is its parity (`behind`).
+-- `generator::parity_behind` meets its contract: what is left of the word with four zeros behind it is its parity (`behind`).
 -- Assumes nothing.
-use Rattle.dividing.proofs.Answers.{behind}
+use Rattle.generator.proofs.Answers.{behind}
 use borrow.Author.Needs.{needs}
-use Rattle.dividing.proofs.parity_behind.Statement.{statement}
-use Rattle.dividing.proofs.parity_behind.Tie as tie
+use Rattle.generator.proofs.parity_behind.Statement.{statement}
+use Rattle.generator.proofs.parity_behind.Tie as tie
 
 divide-requires : tie.Need-divide-requires
 divide-requires c κs = search needs

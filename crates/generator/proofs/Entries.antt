@@ -18,9 +18,9 @@ use Rattle.field.specs.Field.Linear.{mul-xor, mul-xor-r, mul-zero-l, mul-zero-r
 use Rattle.field.specs.Field.Powers.{power-lt}
 use Rattle.field.specs.Field.Product.{mul-assoc, mul-byte, mul-power-add}
 use Rattle.codeword.specs.Code.{sum}
-use Rattle.dividing.specs.Inner.Register.{fourOf, entryOf, entries}
-use Rattle.dividing.specs.Inner.Rows.{row, rows, upward, downward}
-use Rattle.dividing.proofs.Digits.{bytes-four, fourOf-packed, sum-xor}
+use Rattle.generator.specs.Inner.Register.{fourOf, entryOf, entries}
+use Rattle.generator.specs.Inner.Rows.{row, rows, upward, downward}
+use Rattle.generator.proofs.Digits.{bytes-four, fourOf-packed, sum-xor}
 
 -- ---- x times some bytes
 

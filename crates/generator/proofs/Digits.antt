@@ -11,7 +11,7 @@ use Rattle.outcome.specs.Bytes.Kept.{bytes-nil, bytes-cons}
 use Rattle.xor.specs.Added.{added}
 use Rattle.codeword.specs.Code.{sum}
 use Rattle.codeword.specs.Code.Sums.{sum-added}
-use Rattle.dividing.specs.Inner.Register.{fourOf}
+use Rattle.generator.specs.Inner.Register.{fourOf}
 
 pub four : {a b c d a' b' c' d' : ℕ} → a ≡ a' → b ≡ b' → c ≡ c' → d ≡ d' → a ∷ b ∷ c ∷ d ∷ [] ≡ a' ∷ b' ∷ c' ∷ d' ∷ []
 four p q r s = λ i. p i ∷ q i ∷ r i ∷ s i ∷ []

@@ -1,12 +1,12 @@
--- `dividing::look_up` meets its contract: the four answers, added.
+-- `generator::look_up` meets its contract: the four answers, added.
 -- Assumes nothing.
 use mathlib.Core.Path.{_≡_}
 use Prim.Native.Nat.{ℕ}
 use lib.Bits.{bitXor}
-use Rattle.dividing.specs.Inner.Register.{entries}
+use Rattle.generator.specs.Inner.Register.{entries}
 use borrow.Author.Needs.{needs}
-use Rattle.dividing.proofs.look_up.Statement.{statement}
-use Rattle.dividing.proofs.look_up.Tie as tie
+use Rattle.generator.proofs.look_up.Statement.{statement}
+use Rattle.generator.proofs.look_up.Tie as tie
 
 entry-requires : tie.Need-entry-requires
 entry-requires c κs = search needs

@@ -1,9 +1,9 @@
--- `dividing::word_at` meets its contract: four bytes packed are those bytes again (`word-at`).
+-- `generator::word_at` meets its contract: four bytes packed are those bytes again (`word-at`).
 -- Assumes nothing.
 use borrow.Author.Needs.{needs}
-use Rattle.dividing.proofs.Divided.{word-at}
-use Rattle.dividing.proofs.word_at.Statement.{statement}
-use Rattle.dividing.proofs.word_at.Tie as tie
+use Rattle.generator.proofs.Divided.{word-at}
+use Rattle.generator.proofs.word_at.Statement.{statement}
+use Rattle.generator.proofs.word_at.Tie as tie
 
 shared-slice-read-word : tie.Need-shared-slice-read-word
 shared-slice-read-word c = search needs

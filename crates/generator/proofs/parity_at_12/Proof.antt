@@ -1,11 +1,11 @@
--- `dividing::parity_at_12` meets its contract, which is the callee's. The tables are computed.
+-- `generator::parity_at_12` meets its contract, which is the callee's. The tables are computed.
 -- Assumes nothing.
 use mathlib.Core.Path.{refl}
 use Rattle.field.specs.Field.{timesAlpha, mulBits, mul}
-use Rattle.dividing.specs.Inner.Rows.{rows}
+use Rattle.generator.specs.Inner.Rows.{rows}
 use borrow.Author.Needs.{needs}
-use Rattle.dividing.proofs.parity_at_12.Statement.{statement}
-use Rattle.dividing.proofs.parity_at_12.Tie as tie
+use Rattle.generator.proofs.parity_at_12.Statement.{statement}
+use Rattle.generator.proofs.parity_at_12.Tie as tie
 
 slice-aggregate-parity-amid : tie.Need-slice-aggregate-parity-amid
 slice-aggregate-parity-amid c = search needs

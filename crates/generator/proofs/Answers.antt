@@ -24,11 +24,11 @@ use Rattle.codeword.specs.Nearest.{verdict}
 use Rattle.codeword.specs.Parity.{Parity}
 use Rattle.codeword.specs.Parity.One.{parity-added, power-back}
 use Rattle.codeword.specs.declared.Verdict.the-variants.{Clean}
-use Rattle.dividing.specs.Inner.Register.{fourOf, entries, Left}
-use Rattle.dividing.specs.Inner.Rows.{rows, upward, downward}
-use Rattle.dividing.proofs.Digits.{bytes-fourOf}
-use Rattle.dividing.proofs.Entries.{upward-powers, downward-powers, moves}
-use Rattle.dividing.proofs.Divided.{four-at}
+use Rattle.generator.specs.Inner.Register.{fourOf, entries, Left}
+use Rattle.generator.specs.Inner.Rows.{rows, upward, downward}
+use Rattle.generator.proofs.Digits.{bytes-fourOf}
+use Rattle.generator.proofs.Entries.{upward-powers, downward-powers, moves}
+use Rattle.generator.proofs.Divided.{four-at}
 
 -- ---- nothing is left
 

@@ -1,9 +1,9 @@
--- `dividing::verdict_of_four` meets its contract: what divides is clean, and for the rest `codeword` promises the same.
+-- `generator::verdict_of_four` meets its contract: what divides is clean, and for the rest `codeword` promises the same.
 -- Assumes nothing.
 use mathlib.Core.Path.{sym}
 use borrow.Author.Needs.{needs}
-use Rattle.dividing.proofs.verdict_of_four.Statement.{statement}
-use Rattle.dividing.proofs.verdict_of_four.Tie as tie
+use Rattle.generator.proofs.verdict_of_four.Statement.{statement}
+use Rattle.generator.proofs.verdict_of_four.Tie as tie
 
 divides-requires : tie.Need-divides-requires
 divides-requires c κs = search needs

@@ -1,4 +1,4 @@
--- `dividing::divide` meets its contract. In both loops the register has the sums of the bytes passed (`Divided`), and four bytes more, or one,
+-- `generator::divide` meets its contract. In both loops the register has the sums of the bytes passed (`Divided`), and four bytes more, or one,
 -- keep it so.
 -- Assumes nothing.
 use mathlib.Core.Path.{ap, _∙_}
@@ -7,10 +7,10 @@ use Prim.Native.Nat.{ℕ, _-_}
 use native.Mathlib.Omega.{arith}
 use borrow.Author.Needs.{needs}
 use lib.ListN.{length}
-use Rattle.dividing.specs.Inner.Register.{entries}
-use Rattle.dividing.proofs.Divided.{Divided, divided-none, divided-word, divided-byte, divided-all}
-use Rattle.dividing.proofs.divide.Statement.{statement}
-use Rattle.dividing.proofs.divide.Tie as tie
+use Rattle.generator.specs.Inner.Register.{entries}
+use Rattle.generator.proofs.Divided.{Divided, divided-none, divided-word, divided-byte, divided-all}
+use Rattle.generator.proofs.divide.Statement.{statement}
+use Rattle.generator.proofs.divide.Tie as tie
 
 abbrev Inv-loop : tie.InvT-loop
 Inv-loop t w r₀ i₀ r i = Divided w i r

@@ -1,9 +1,9 @@
--- `dividing::parity_amid` meets its contract: what is left, moved down by twelve bytes, is what is to be added (`amid`).
+-- `generator::parity_amid` meets its contract: what is left, moved down by twelve bytes, is what is to be added (`amid`).
 -- Assumes nothing.
-use Rattle.dividing.proofs.Answers.{amid}
+use Rattle.generator.proofs.Answers.{amid}
 use borrow.Author.Needs.{needs}
-use Rattle.dividing.proofs.parity_amid.Statement.{statement}
-use Rattle.dividing.proofs.parity_amid.Tie as tie
+use Rattle.generator.proofs.parity_amid.Statement.{statement}
+use Rattle.generator.proofs.parity_amid.Tie as tie
 
 divide-requires : tie.Need-divide-requires
 divide-requires c κs = search needs

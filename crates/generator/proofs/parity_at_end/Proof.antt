@@ -1,11 +1,11 @@
--- `dividing::parity_at_end` meets its contract, which is the callee's. The table is computed.
+-- `generator::parity_at_end` meets its contract, which is the callee's. The table is computed.
 -- Assumes nothing.
 use mathlib.Core.Path.{refl}
 use Rattle.field.specs.Field.{timesAlpha, mulBits, mul}
-use Rattle.dividing.specs.Inner.Rows.{rows}
+use Rattle.generator.specs.Inner.Rows.{rows}
 use borrow.Author.Needs.{needs}
-use Rattle.dividing.proofs.parity_at_end.Statement.{statement}
-use Rattle.dividing.proofs.parity_at_end.Tie as tie
+use Rattle.generator.proofs.parity_at_end.Statement.{statement}
+use Rattle.generator.proofs.parity_at_end.Tie as tie
 
 parity-behind-requires : tie.Need-parity-behind-requires
 unfolding rows mul mulBits timesAlpha

@@ -1,13 +1,13 @@
--- `dividing::divides` meets its contract: a word of which nothing is left is a codeword (`clean`). The table is computed.
+-- `generator::divides` meets its contract: a word of which nothing is left is a codeword (`clean`). The table is computed.
 -- Assumes nothing.
 use mathlib.Core.Path.{_≡_, refl}
 use Prim.Native.Nat.{ℕ}
 use native.Mathlib.Omega.{arith}
 use Rattle.field.specs.Field.{timesAlpha, mulBits, mul}
-use Rattle.dividing.specs.Inner.Rows.{rows}
-use Rattle.dividing.proofs.Answers.{clean}
-use Rattle.dividing.proofs.divides.Statement.{statement}
-use Rattle.dividing.proofs.divides.Tie as tie
+use Rattle.generator.specs.Inner.Rows.{rows}
+use Rattle.generator.proofs.Answers.{clean}
+use Rattle.generator.proofs.divides.Statement.{statement}
+use Rattle.generator.proofs.divides.Tie as tie
 
 returns : tie.Need-returns
 returns c e = let z : _≡_ {A = ℕ} 0 1 = cc in absurd (omega arith)

@@ -15,10 +15,10 @@ use Rattle.field.specs.Field.{power, mul}
 use Rattle.codeword.specs.Code.{sum}
 use Rattle.codeword.specs.Code.Sums.{sum-append}
 use Rattle.codeword.specs.Code.Distance.{sum-zeros}
-use Rattle.dividing.specs.Inner.Register.{fourOf, entryOf, entries, Left}
-use Rattle.dividing.specs.Inner.Rows.{rows, upward}
-use Rattle.dividing.proofs.Digits.{bytes-fourOf, fourOf-packed, fourOf-next, sum-xor}
-use Rattle.dividing.proofs.Entries.{upward-powers, entry-sum, moves}
+use Rattle.generator.specs.Inner.Register.{fourOf, entryOf, entries, Left}
+use Rattle.generator.specs.Inner.Rows.{rows, upward}
+use Rattle.generator.proofs.Digits.{bytes-fourOf, fourOf-packed, fourOf-next, sum-xor}
+use Rattle.generator.proofs.Entries.{upward-powers, entry-sum, moves}
 
 -- ---- four bytes of a word
 
