@@ -1,12 +1,12 @@
 -- There and back: a capture kept as a list comes back as the same bytes, and a list that is restored is kept as the same list.
 -- Assumes nothing.
-use mathlib.Core.Path.{_≡_, refl, sym, ap, ap₂, _∙_, subst}
-use mathlib.Core.List.{List, [], _∷_, _++_}
-use Prim.Native.Nat.{ℕ, _+_, _*_, _/_, _%_, _<_, _≤_}
+use mathlib.Core.Path.{_≡_, refl, sym, ap, _∙_}
+use mathlib.Core.List.{List, [], _∷_}
+use Prim.Native.Nat.{ℕ, _*_, _%_, _≤_}
 use native.Mathlib.Omega.{arith}
 use lib.ListN.{length, length-append}
 use Rattle.outcome.specs.Bytes.{Bytes}
-use Rattle.captures.specs.Counts.{countsOf, bytesOf, Counts, distances, edges}
+use Rattle.captures.specs.Counts.{countsOf, bytesOf, Counts}
 use Rattle.captures.specs.Counts.Bytes.{bytes-counts, counts-bytes, counts-small, length-counts, length-bytes}
 use Rattle.captures.specs.Counts.Round.{edges-distances, distances-edges, distances-small, length-distances, length-edges}
 use Rattle.captures.specs.Number.{shortest}
