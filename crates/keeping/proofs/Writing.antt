@@ -6,14 +6,14 @@ use Prim.Native.Nat.{ℕ, _+_, _*_, _/_, _%_, _<_, _≤_}
 use native.Mathlib.Numerals.{add-one}
 use native.Mathlib.Omega.{arith}
 use borrow.Author.Tests.{eq-eqb, ne-eqb, le-leb, lt-leb}
-use lib.ListN.{length, getD, take, drop, replicate, length-append, drop-of-length-le}
+use lib.ListN.{length, getD, take, drop, length-append, drop-of-length-le}
 use lib.Seq.{drop-cons}
 use Rattle.outcome.specs.Bytes.{Bytes}
 use Rattle.outcome.specs.Say.{done, refused, outcome, cleared}
 use Rattle.captures.specs.Counts.{countsOf, distance, distances}
 use Rattle.captures.specs.Counts.Bytes.{counts-small, length-counts}
 use Rattle.captures.specs.Number.{shortest}
-use Rattle.captures.specs.Kept.{written, kept, runList, filled, keeping}
+use Rattle.captures.specs.Kept.{written, runList, filled, keeping}
 use Rattle.captures.specs.Kept.One.{some-bytes}
 use Rattle.captures.specs.Kept.Filled.{length-filled, wiped-length, filled-more, kept-from-0}
 use Rattle.keeping.specs.Inner.Put.{Puts}

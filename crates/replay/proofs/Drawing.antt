@@ -1,59 +1,24 @@
 -- The bits of the frames edge by edge: a ONE for each edge into a buffer of zeros gives the Channel bits as far as `end`.
 -- Assumes nothing.
-use mathlib.Core.Path.{_≡_, refl, sym, ap, _∙_, subst}
+use mathlib.Core.Path.{_≡_, refl, sym, ap, _∙_}
 use mathlib.Core.Logic.{_⊎_, inl, inr}
-use mathlib.Core.List.{List, [], _∷_, _++_}
-use Prim.Native.Nat.{ℕ, zero, suc, _+_, _-_, _*_, _<_, _≤_}
+use mathlib.Core.List.{List, _++_}
+use Prim.Native.Nat.{ℕ, _+_, _-_, _*_, _<_, _≤_}
 use native.Mathlib.Omega.{arith}
-use borrow.Author.Tests.{le-ltb}
-use lib.ListN.{length, getD, set, take, drop, replicate, length-set, length-drop, length-replicate, length-append, getD-replicate, List·getD-append, List·getD-eq-default, drop-of-length-le}
-use lib.Seq.{drop-cons, drop-drop, getD-drop, getD-take, getD-set-same, getD-set-other, getD-append-add, length-take-le, ext-getD}
+use lib.ListN.{length, getD, set, take, drop, replicate, length-set, length-drop, length-replicate, length-append, getD-replicate, List·getD-append, List·getD-eq-default}
+use lib.Seq.{drop-drop, getD-drop, getD-take, getD-set-same, getD-set-other, getD-append-add, length-take-le, ext-getD}
 use Rattle.outcome.specs.First.Found.{lt-or-le}
 use Rattle.bits.specs.Bits.{unpack}
 use Rattle.bits.specs.Bits.Packed.{length-unpack}
-use Rattle.captures.specs.Counts.{bitsIn}
 use Rattle.replaying.specs.Replay.{channel}
 use Rattle.replaying.specs.Replay.Sizes.{Legal}
-use Rattle.replaying.specs.Replay.Headers.{run-zero, channel-one}
-use Rattle.replaying.specs.Replay.Edges.{drop-edge, legal-drop}
+use Rattle.replaying.specs.Replay.Headers.{channel-one}
+use Rattle.replaying.specs.Replay.Edges.{legal-drop}
 use Rattle.replay.specs.Inner.Runs.{runs, edgeBits, EdgeThere}
 use Rattle.replay.specs.Inner.Frames.{FramesDue, FramesPut}
-use Rattle.replay.proofs.Legality.{runs-long, bits-there}
+use Rattle.replay.proofs.Legality.{runs-long}
+use Rattle.replay.proofs.Front.{front, front-is, front-some, front-zeros, front-next}
 use Rattle.replay.proofs.Packing.{unpack-zeros}
-
--- ---- an edge with its ZEROs
-
--- the bits that the edge in front of these runs takes
-front : List ℕ → ℕ
-front [] = 1
-front (d ∷ ds) = bitsIn d
-
-front-is : (ds : List ℕ) (j : ℕ) → edgeBits ds j ≡ front (drop j ds)
-unfolding edgeBits front
-front-is ds j = go (lt-or-le j (length ds))
-  where
-    go : (j < length ds) ⊎ (length ds ≤ j) → edgeBits ds j ≡ front (drop j ds)
-    go (inl h) = bits-there ds j h ∙ ap front (sym (drop-cons ds j 0 h))
-    go (inr h) =
-        let e : edgeBits ds j ≡ 1 = simp (le-ltb j (length ds) h) in
-        e ∙ ap front (sym (drop-of-length-le ds h))
-
-front-some : (es : List ℕ) → Legal es → (1 ≤ front es) × (front es ≤ 11)
-unfolding front
-front-some [] l = (omega arith, omega arith)
-front-some (d ∷ es) l = (omega (arith, l .0), l .1)
-
-front-zeros : (es : List ℕ) (p : ℕ) → 0 < p → p < front es → getD (channel es) p 0 ≡ 0
-unfolding front channel
-front-zeros [] p h k = absurd (omega arith)
-front-zeros (d ∷ es) p h k = run-zero (bitsIn d) p (channel es) h k
-
-front-next : (es : List ℕ) → Legal es → front es < length (channel es) → drop (front es) (channel es) ≡ channel (drop 1 es)
-unfolding front channel
-front-next [] l h = absurd (omega arith)
-front-next (d ∷ es) l h = drop-edge d es l
-
--- ---- the loop
 
 -- the bits before bit q are in the buffer as far as `end`; edge j stands at bit q
 pub record Drawing (ds bits : List ℕ) (k end : ℕ) (out : List ℕ) (q j : ℕ) : Type 0 where

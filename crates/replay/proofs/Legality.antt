@@ -11,7 +11,7 @@ use lib.Dec.{ltb, leb}
 use lib.ListN.{length, getD}
 use Rattle.outcome.specs.First.{First}
 use Rattle.outcome.specs.First.Found.{lt-or-le, first-below, found-first}
-use Rattle.captures.specs.Counts.{countsOf, runsOf, bitsIn, legal}
+use Rattle.captures.specs.Counts.{countsOf, bitsIn, legal}
 use Rattle.captures.specs.Counts.Bytes.{length-counts}
 use Rattle.captures.specs.Counts.Places.{length-runs}
 use Rattle.edges.specs.declared.Step.{Step}

@@ -1,19 +1,22 @@
--- Bits in bytes: a ONE put into its byte, and zeros.
+-- Bits in bytes: a ONE put into its byte, zeros, and the bytes of whole frames.
 -- Assumes nothing.
 use mathlib.Core.Path.{_≡_, refl, sym, ap, ap₂, _∙_}
 use mathlib.Core.Bool.{Bool, true, false, _&&_}
-use mathlib.Core.List.{List, [], _∷_, _++_}
-use Prim.Native.Nat.{ℕ, zero, suc, _+_, _*_, _/_, _%_, _^_, _<_, _≤_}
+use mathlib.Core.List.{List, [], _∷_, _++_, append-assoc}
+use Prim.Native.Nat.{ℕ, zero, suc, _+_, _-_, _*_, _/_, _%_, _^_, _<_, _≤_}
 use native.Mathlib.Nat.{zero-add, suc-add}
 use native.Mathlib.Omega.{arith}
 use lib.Bits.{bitOr}
 use lib.Dec.{T, eqb, eqb→eq}
-use lib.ListN.{length, getD, set, take, drop, replicate, length-drop, replicate-append-replicate}
-use lib.Seq.{set-append-left, take-append-le, drop-append-le}
+use lib.ListN.{length, getD, set, take, drop, replicate, length-drop, length-append, length-replicate, replicate-append-replicate}
+use lib.Seq.{set-append-left, take-append-le, drop-append-le, length-take-le}
 use Rattle.outcome.specs.Bytes.{Bytes}
 use Rattle.outcome.specs.Table.{allBelow}
 use Rattle.outcome.specs.Table.Entries.{and-left, and-right, below}
 use Rattle.bits.specs.Bits.{bitsOf, number, unpack, pack}
+use Rattle.bits.specs.Bits.Packed.{length-pack, packed as bytes-packed}
+use Rattle.captures.specs.Kept.{filled}
+use Rattle.replaying.specs.Replay.{bytesFor}
 
 -- ---- a ONE in its byte
 
@@ -96,3 +99,43 @@ pack-append (suc n) m xs ys e =
     let l : length (drop 8 xs) ≡ 8 * n = omega (arith, length-drop 8 xs) in
     ap (λ (k : ℕ). pack k (xs ++ ys)) (suc-add n m) ∙ ap₂ (λ (a b : List ℕ). number 0 a ∷ pack (n + m) b) (take-append-le 8 xs ys h) (drop-append-le 8 xs ys h)
     ∙ ap (λ (t : List ℕ). number 0 (take 8 xs) ∷ t) (pack-append n m (drop 8 xs) ys l)
+
+-- ---- the bytes of the frames
+
+-- n frames of these bits, with zeros behind them, are n packed frames and zeros
+pub frames-packed : (new bits : List ℕ) (n : ℕ) → Bytes new → length new ≡ 65536 → 588 * n ≤ length bits → 588 * n ≤ 360449
+    → unpack new ≡ take (588 * n) bits ++ replicate (524288 - 588 * n) 0
+    → new ≡ filled 65536 (pack (bytesFor n) (take (588 * n) bits ++ replicate (8 * bytesFor n - 588 * n) 0))
+frames-packed new bits n b l h few e =
+    bytes-packed 65536 new whole b l (e ∙ parts)
+    ∙ ap (λ (k : ℕ). pack k whole) room ∙ pack-append (bytesFor n) (65536 - bytesFor n) used (replicate (8 * (65536 - bytesFor n)) 0) long
+    ∙ ap (λ (t : List ℕ). pack (bytesFor n) used ++ t) (pack-zeros (65536 - bytesFor n))
+    ∙ ap (λ (k : ℕ). pack (bytesFor n) used ++ replicate (65536 - k) 0) (sym (length-pack (bytesFor n) used))
+  where
+    used : List ℕ
+    used = take (588 * n) bits ++ replicate (8 * bytesFor n - 588 * n) 0
+
+    whole : List ℕ
+    whole = used ++ replicate (8 * (65536 - bytesFor n)) 0
+
+    room : 65536 ≡ bytesFor n + (65536 - bytesFor n)
+    room = omega arith
+
+    long : length used ≡ 8 * bytesFor n
+    long =
+        omega (
+          arith,
+          length-append (take (588 * n) bits) (replicate (8 * bytesFor n - 588 * n) 0),
+          length-take-le (588 * n) bits h,
+          length-replicate {A = ℕ} (8 * bytesFor n - 588 * n) 0,
+        )
+
+    all : 524288 - 588 * n ≡ 8 * bytesFor n - 588 * n + 8 * (65536 - bytesFor n)
+    all = omega arith
+
+    parts : take (588 * n) bits ++ replicate (524288 - 588 * n) 0 ≡ whole
+    parts =
+        ap (λ (k : ℕ). take (588 * n) bits ++ replicate k 0) all
+        ∙ ap (λ (t : List ℕ). take (588 * n) bits ++ t)
+        (sym (replicate-append-replicate {A = ℕ} (8 * bytesFor n - 588 * n) (8 * (65536 - bytesFor n)) 0))
+        ∙ sym (append-assoc (take (588 * n) bits) (replicate (8 * bytesFor n - 588 * n) 0) (replicate (8 * (65536 - bytesFor n)) 0))

@@ -1,19 +1,19 @@
 -- The edge at which the first Sync Header begins, and how many bits there are from an edge on.
 -- Assumes nothing.
-use mathlib.Core.Path.{_≡_, refl, sym, ap, _∙_, subst}
+use mathlib.Core.Path.{_≡_, sym, ap, _∙_, subst}
 use mathlib.Core.Bool.{Bool, true, false}
 use mathlib.Core.Logic.{_⊎_, inl, inr}
-use mathlib.Core.List.{List, [], _∷_}
+use mathlib.Core.List.{List, _∷_}
 use Prim.Native.Nat.{ℕ, suc, _+_, _*_, _-_, _/_, _<_, _≤_}
 use native.Mathlib.Numerals.{add-one}
 use native.Mathlib.Omega.{arith}
-use lib.ListN.{length, getD, take, drop, length-drop, drop-of-length-le}
+use lib.ListN.{length, getD, drop, length-drop, drop-of-length-le}
 use lib.Seq.{drop-cons}
 use Rattle.outcome.specs.First.Found.{lt-or-le}
 use Rattle.merging.specs.Rule.{header, starts}
 use Rattle.captures.specs.Counts.{bitsIn}
 use Rattle.replaying.specs.Replay.{channel, firstHeader}
-use Rattle.replaying.specs.Replay.Sizes.{Legal, bitsOfRuns, length-channel, bits-at-most}
+use Rattle.replaying.specs.Replay.Sizes.{Legal, bitsOfRuns, length-channel}
 use Rattle.replaying.specs.Replay.Headers.{few-runs}
 use Rattle.replaying.specs.Replay.Edges.{bits-parted, legal-drop, header-here, header-nowhere, header-from, header-at, no-header-first, no-header-second}
 use Rattle.replay.specs.Inner.Runs.{runs, edgeBits, LegalCapture, EdgeThere, ThreeRuns}

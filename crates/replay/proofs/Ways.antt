@@ -1,19 +1,16 @@
 -- The ways out of replaying a capture: the buffer is wiped first, and its length stays.
 -- Assumes nothing.
 use mathlib.Core.Path.{_≡_, refl, sym, ap, ap₂, _∙_, subst}
-use mathlib.Core.Bool.{Bool, true, false}
-use mathlib.Core.List.{List, [], _∷_, _++_, append-assoc}
-use Prim.Native.Nat.{ℕ, suc, _+_, _-_, _*_, _/_, _%_, _<_, _≤_}
+use mathlib.Core.List.{List, [], _∷_, _++_}
+use Prim.Native.Nat.{ℕ, _+_, _-_, _*_, _/_, _%_, _<_, _≤_}
 use native.Mathlib.Omega.{arith}
 use borrow.Author.Tests.{eq-eqb, ne-eqb, le-leb, lt-leb, lt-ltb, le-ltb}
-use lib.ListN.{length, take, drop, replicate, length-append, length-replicate, replicate-append-replicate, length-drop}
-use lib.Seq.{length-take-le}
+use lib.ListN.{length, take, drop, replicate, length-drop}
 use Rattle.outcome.specs.Bytes.{Bytes}
 use Rattle.outcome.specs.First.{firstBelow, firstFrom}
 use Rattle.outcome.specs.Say.{Say, done, refused, outcome, answered, cleared}
 use Rattle.outcome.specs.Say.Refusals.{cleared-right}
-use Rattle.bits.specs.Bits.{unpack, pack}
-use Rattle.bits.specs.Bits.Packed.{length-pack, packed as bytes-packed}
+use Rattle.bits.specs.Bits.{pack}
 use Rattle.captures.specs.Counts.{countsOf, runsOf}
 use Rattle.captures.specs.Kept.{filled}
 use Rattle.captures.specs.Kept.Filled.{wiped-length}
@@ -26,47 +23,7 @@ use Rattle.replay.specs.Inner.Runs.{runs, LegalCapture, EdgeThere}
 use Rattle.replay.specs.Inner.Begins.{Begins, BeginsAt}
 use Rattle.replay.specs.Inner.Frames.{FramesDue, FramesPut}
 use Rattle.replay.proofs.Legality.{runs-long, none-illegal}
-use Rattle.replay.proofs.Packing.{pack-zeros, pack-append}
-
--- ---- the bytes of the frames
-
--- n frames of these bits, with zeros behind them, are n packed frames and zeros
-frames-packed : (new bits : List ℕ) (n : ℕ) → Bytes new → length new ≡ 65536 → 588 * n ≤ length bits → 588 * n ≤ 360449
-    → unpack new ≡ take (588 * n) bits ++ replicate (524288 - 588 * n) 0
-    → new ≡ filled 65536 (pack (bytesFor n) (take (588 * n) bits ++ replicate (8 * bytesFor n - 588 * n) 0))
-frames-packed new bits n b l h few e =
-    bytes-packed 65536 new whole b l (e ∙ parts)
-    ∙ ap (λ (k : ℕ). pack k whole) room ∙ pack-append (bytesFor n) (65536 - bytesFor n) used (replicate (8 * (65536 - bytesFor n)) 0) long
-    ∙ ap (λ (t : List ℕ). pack (bytesFor n) used ++ t) (pack-zeros (65536 - bytesFor n))
-    ∙ ap (λ (k : ℕ). pack (bytesFor n) used ++ replicate (65536 - k) 0) (sym (length-pack (bytesFor n) used))
-  where
-    used : List ℕ
-    used = take (588 * n) bits ++ replicate (8 * bytesFor n - 588 * n) 0
-
-    whole : List ℕ
-    whole = used ++ replicate (8 * (65536 - bytesFor n)) 0
-
-    room : 65536 ≡ bytesFor n + (65536 - bytesFor n)
-    room = omega arith
-
-    long : length used ≡ 8 * bytesFor n
-    long =
-        omega (
-          arith,
-          length-append (take (588 * n) bits) (replicate (8 * bytesFor n - 588 * n) 0),
-          length-take-le (588 * n) bits h,
-          length-replicate {A = ℕ} (8 * bytesFor n - 588 * n) 0,
-        )
-
-    all : 524288 - 588 * n ≡ 8 * bytesFor n - 588 * n + 8 * (65536 - bytesFor n)
-    all = omega arith
-
-    parts : take (588 * n) bits ++ replicate (524288 - 588 * n) 0 ≡ whole
-    parts =
-        ap (λ (k : ℕ). take (588 * n) bits ++ replicate k 0) all
-        ∙ ap (λ (t : List ℕ). take (588 * n) bits ++ t)
-        (sym (replicate-append-replicate {A = ℕ} (8 * bytesFor n - 588 * n) (8 * (65536 - bytesFor n)) 0))
-        ∙ sym (append-assoc (take (588 * n) bits) (replicate (8 * bytesFor n - 588 * n) 0) (replicate (8 * (65536 - bytesFor n)) 0))
+use Rattle.replay.proofs.Packing.{frames-packed}
 
 -- ---- captures without an edge, and with some
 
@@ -79,6 +36,36 @@ some-bits : (cs : List ℕ) → 0 < length (runsOf cs) → channelOf cs ≡ chan
 unfolding channelOf runsOf
 some-bits [] h = absurd (omega arith)
 some-bits (c ∷ cs) h = refl
+
+-- ---- how far the code is
+
+-- the buffer is wiped, and all lengths are right
+pub record Right (capture old frames : List ℕ) : Type 0 where
+  pub wiped : frames ≡ cleared 65536 old
+  pub even : length capture % 2 ≡ 0
+  pub short : length capture ≤ 65536
+  pub long : length frames ≡ 65536
+
+-- all runs are legal
+pub record Clear (capture old frames : List ℕ) : Type 0 where
+  pub right : Right capture old frames
+  pub none : length (runs capture) ≤ firstIllegal (runs capture)
+  pub legal : Legal (runs capture)
+
+-- the first Sync Header begins at edge k
+pub record Begun (capture old frames : List ℕ) (k : ℕ) : Type 0 where
+  pub clear : Clear capture old frames
+  pub at : BeginsAt (runs capture) k
+
+pub is-clear : {capture old frames : List ℕ} → Right capture old frames → (i : ℕ) → i ≡ firstIllegal (runs capture) → length capture / 2 ≤ i + 1
+    → Clear capture old frames
+is-clear {capture} r i e k =
+    let l : length (runs capture) ≤ firstIllegal (runs capture) = omega (arith, runs-long capture) in
+    record { right = r; none = l; legal = none-illegal (runs capture) l }
+
+pub is-begun : {capture old frames : List ℕ} → Clear capture old frames → (s : Start) → Begins (runs capture) s → (k : ℕ) → s ≡ At k
+    → Begun capture old frames k
+is-begun {capture} c s b k e = record { clear = c; at = subst (Begins (runs capture)) e b }
 
 -- ---- the ways out
 
@@ -102,112 +89,115 @@ module _ (capture old frames : List ℕ) (wiped : frames ≡ cleared 65536 old) 
   unfolding replaySay
   on-long e h = refuses 1 [] (simp (eq-eqb (length capture % 2) 0 e, lt-leb (length capture) 65536 h))
 
-  module _ (e : length capture % 2 ≡ 0) (h : length capture ≤ 65536) where
-    pub on-room : (length frames ≡ 65536 → ⊥) → outcome (refused 2 []) frames ≡ replaying capture old
-    unfolding replaySay
-    on-room n =
-        refuses 2 [] (simp (eq-eqb (length capture % 2) 0 e, le-leb (length capture) 65536 h, ne-eqb (length old) 65536 (λ l. n (same ∙ l))))
+  pub on-room : length capture % 2 ≡ 0 → length capture ≤ 65536 → (length frames ≡ 65536 → ⊥) → outcome (refused 2 []) frames ≡ replaying capture old
+  unfolding replaySay
+  on-room e h n =
+      refuses 2 [] (simp (eq-eqb (length capture % 2) 0 e, le-leb (length capture) 65536 h, ne-eqb (length old) 65536 (λ l. n (same ∙ l))))
 
-    module _ (n : length frames ≡ 65536) where
-      bits : List ℕ
-      bits = channelOf (countsOf capture)
+module _ {capture old frames : List ℕ} (r : Right capture old frames) where
+  bits : List ℕ
+  bits = channelOf (countsOf capture)
 
-      -- the lengths are right: the runs decide
-      runs-decide : replaySay capture old ≡ runsSay (runs capture) (firstIllegal (runs capture)) (headerSay bits (firstHeader bits))
-      unfolding replaySay bits
-      runs-decide = simp (eq-eqb (length capture % 2) 0 e, le-leb (length capture) 65536 h, eq-eqb (length old) 65536 (sym same ∙ n))
+  old-long : length old ≡ 65536
+  old-long = sym (same capture old frames (r .wiped)) ∙ r .long
 
-      module _ (i : ℕ) (first : i ≡ firstIllegal (runs capture)) where
-        pub on-illegal : i + 1 < length capture / 2 → outcome (refused 20 (i ∷ [])) frames ≡ replaying capture old
-        on-illegal k =
-            let l : firstIllegal (runs capture) < length (runs capture) = omega (arith, runs-long capture) in
-            let said : runsSay (runs capture) (firstIllegal (runs capture)) (headerSay bits (firstHeader bits)) ≡ refused 20 (firstIllegal (runs capture) ∷ [])
-            = simp (lt-ltb (firstIllegal (runs capture)) (length (runs capture)) l) in
-            refuses 20 (i ∷ []) (runs-decide ∙ said ∙ ap (λ (j : ℕ). refused 20 (j ∷ [])) (sym first))
+  -- the lengths are right: the runs decide
+  runs-decide : replaySay capture old ≡ runsSay (runs capture) (firstIllegal (runs capture)) (headerSay bits (firstHeader bits))
+  unfolding replaySay bits
+  runs-decide = simp (eq-eqb (length capture % 2) 0 (r .even), le-leb (length capture) 65536 (r .short), eq-eqb (length old) 65536 old-long)
 
-        module _ (k : length capture / 2 ≤ i + 1) where
-          pub all-legal : LegalCapture capture
-          all-legal = record { short = h; legal = none-illegal (runs capture) (omega (arith, runs-long capture)) }
+  pub on-illegal : (i : ℕ) → i ≡ firstIllegal (runs capture) → i + 1 < length capture / 2 → outcome (refused 20 (i ∷ [])) frames ≡ replaying capture old
+  on-illegal i first k =
+      let l : firstIllegal (runs capture) < length (runs capture) = omega (arith, runs-long capture) in
+      let said : runsSay (runs capture) (firstIllegal (runs capture)) (headerSay bits (firstHeader bits)) ≡ refused 20 (firstIllegal (runs capture) ∷ [])
+      = simp (lt-ltb (firstIllegal (runs capture)) (length (runs capture)) l) in
+      refuses capture old frames (r .wiped) 20 (i ∷ []) (runs-decide ∙ said ∙ ap (λ (j : ℕ). refused 20 (j ∷ [])) (sym first))
 
-          -- and then the Sync Header
-          header-decides : replaySay capture old ≡ headerSay bits (firstHeader bits)
-          header-decides =
-              let l : length (runs capture) ≤ firstIllegal (runs capture) = omega (arith, runs-long capture) in
-              let said : runsSay (runs capture) (firstIllegal (runs capture)) (headerSay bits (firstHeader bits)) ≡ headerSay bits (firstHeader bits)
-              = simp (le-ltb (firstIllegal (runs capture)) (length (runs capture)) l) in
-              runs-decide ∙ said
+module _ {capture old frames : List ℕ} (c : Clear capture old frames) where
+  pub all-legal : LegalCapture capture
+  all-legal = record { short = c .right .short; legal = c .legal }
 
-          pub on-nowhere : (s : Start) → Begins (runs capture) s → s ≡ Nowhere → outcome (refused 21 []) frames ≡ replaying capture old
-          unfolding bits
-          on-nowhere s b f =
-              let p : firstHeader bits ≡ length bits = none-found (countsOf capture) (subst (Begins (runs capture)) f b) in
-              let l : length bits ≤ firstHeader bits = omega arith in
-              let said : headerSay bits (firstHeader bits) ≡ refused 21 [] = simp (le-ltb (firstHeader bits) (length bits) l) in
-              refuses 21 [] (header-decides ∙ said)
+  -- and then the Sync Header
+  header-decides : replaySay capture old ≡ headerSay (channelOf (countsOf capture)) (firstHeader (channelOf (countsOf capture)))
+  unfolding bits
+  header-decides =
+      let said : runsSay (runs capture) (firstIllegal (runs capture)) (headerSay (channelOf (countsOf capture)) (firstHeader (channelOf (countsOf capture))))
+      ≡ headerSay (channelOf (countsOf capture)) (firstHeader (channelOf (countsOf capture)))
+      = simp (le-ltb (firstIllegal (runs capture)) (length (runs capture)) (c .none)) in
+      runs-decide (c .right) ∙ said
 
-          module _ (s : Start) (b : Begins (runs capture) s) (j : ℕ) (f : s ≡ At j) where
-            at : BeginsAt (runs capture) j
-            at = subst (Begins (runs capture)) f b
+  pub on-nowhere : (s : Start) → Begins (runs capture) s → s ≡ Nowhere → outcome (refused 21 []) frames ≡ replaying capture old
+  on-nowhere s b f =
+      let all = channelOf (countsOf capture) in
+      let p : firstHeader all ≡ length all = none-found (countsOf capture) (subst (Begins (runs capture)) f b) in
+      let l : length all ≤ firstHeader all = omega arith in
+      let said : headerSay all (firstHeader all) ≡ refused 21 [] = simp (le-ltb (firstHeader all) (length all) l) in
+      refuses capture old frames (c .right .wiped) 21 [] (header-decides ∙ said)
 
-            legal : Legal (runs capture)
-            legal = all-legal .legal
+module _ {capture old frames : List ℕ} {k : ℕ} (b : Begun capture old frames k) where
+  all : List ℕ
+  all = channelOf (countsOf capture)
 
-            pub edge-there : EdgeThere capture j
-            edge-there = record { short = h; legal = legal; within = omega (arith, at .within) }
+  legal : Legal (runs capture)
+  legal = b .clear .legal
 
-            abbrev from : List ℕ
-            from = channel (drop j (runs capture))
+  pub edge-there : EdgeThere capture k
+  edge-there = record { short = b .clear .right .short; legal = legal; within = omega (arith, b .at .within) }
 
-            bits-are : bits ≡ channel (runs capture)
-            unfolding bits
-            bits-are = some-bits (countsOf capture) (omega (arith, at .within))
+  abbrev from : List ℕ
+  from = channel (drop k (runs capture))
 
-            place : firstHeader bits ≡ bitsOfRuns (take j (runs capture))
-            place = ap firstHeader bits-are ∙ at .is
+  bits-are : all ≡ channel (runs capture)
+  unfolding all
+  bits-are = some-bits (countsOf capture) (omega (arith, b .at .within))
 
-            behind : drop (firstHeader bits) bits ≡ from
-            behind = ap₂ (drop {A = ℕ}) place bits-are ∙ drop-runs j (runs capture) legal (omega (arith, at .within))
+  place : firstHeader all ≡ bitsOfRuns (take k (runs capture))
+  place = ap firstHeader bits-are ∙ b .at .is
 
-            few : length from ≤ 360449
-            few =
-                omega (
-                  arith,
-                  length-channel (drop j (runs capture)) (legal-drop j (runs capture) legal),
-                  bits-at-most (drop j (runs capture)) (legal-drop j (runs capture) legal),
-                  length-drop j (runs capture),
-                  runs-long capture,
-                )
+  behind : drop (firstHeader all) all ≡ from
+  behind = ap₂ (drop {A = ℕ}) place bits-are ∙ drop-runs k (runs capture) legal (omega (arith, b .at .within))
 
-            inside : firstHeader bits < length bits
-            inside = omega (arith, place, ap length bits-are, length-channel (runs capture) legal, bits-parted j (runs capture))
+  few : length from ≤ 360449
+  few =
+      omega (
+        arith,
+        length-channel (drop k (runs capture)) (legal-drop k (runs capture) legal),
+        bits-at-most (drop k (runs capture)) (legal-drop k (runs capture) legal),
+        length-drop k (runs capture),
+        runs-long capture,
+        b .clear .right .short,
+      )
 
-            module _ (m : ℕ) (g : m ≡ length from / 588) where
-              pub frames-due : FramesDue capture j (588 * m) frames
-              frames-due =
-                  record {
-                    there = edge-there;
-                    within = omega (arith, g);
-                    room = omega (arith, g, few);
-                    zeros = wiped ∙ cleared-right 65536 old (sym same ∙ n);
-                  }
+  inside : firstHeader all < length all
+  inside = omega (arith, place, ap length bits-are, length-channel (runs capture) legal, bits-parted k (runs capture))
 
-              pub frames-few : m ≤ 613
-              frames-few = omega (arith, g, few)
+  module _ (m : ℕ) (g : m ≡ length from / 588) where
+    pub frames-due : FramesDue capture k (588 * m) frames
+    frames-due =
+        record {
+          there = edge-there;
+          within = omega (arith, g);
+          room = omega (arith, g, few);
+          zeros = b .clear .right .wiped ∙ cleared-right 65536 old (old-long (b .clear .right));
+        }
 
-              number-is : m ≡ framesFrom bits (firstHeader bits)
-              unfolding framesFrom
-              number-is = g ∙ ap (λ (l : List ℕ). length l / 588) (sym behind) ∙ ap (λ (l : ℕ). l / 588) (length-drop (firstHeader bits) bits)
+    pub frames-few : m ≤ 613
+    frames-few = omega (arith, g, few)
 
-              pub on-done : (new : List ℕ) → Bytes new → FramesPut capture j (588 * m) new
-                  → outcome (done ((147 * m + 1) / 2 ∷ m ∷ [])) new ≡ replaying capture old
-              unfolding framesOf packed bits
-              on-done new w put =
-                  let said : headerSay bits (firstHeader bits) ≡ done (bytesFor (framesFrom bits (firstHeader bits)) ∷ framesFrom bits (firstHeader bits) ∷ [])
-                  = simp (lt-ltb (firstHeader bits) (length bits) inside) in
-                  let is : new ≡ filled 65536 (pack (bytesFor m) (take (588 * m) from ++ replicate (8 * bytesFor m - 588 * m) 0))
-                  = frames-packed new from m w (put .long) (omega (arith, g)) (omega (arith, g, few)) (put .is) in
-                  let same-frames : new ≡ filled 65536 (framesOf bits)
-                  = is ∙ ap (λ (l : List ℕ). filled 65536 (pack (bytesFor m) (take (588 * m) l ++ replicate (8 * bytesFor m - 588 * m) 0))) (sym behind)
-                  ∙ ap (λ (x : ℕ). filled 65536 (packed bits (firstHeader bits) x)) number-is in
-                  ap₂ (λ (x : ℕ) (l : List ℕ). outcome (done (bytesFor x ∷ x ∷ [])) l) number-is same-frames
-                  ∙ sym (left (done (bytesFor (framesFrom bits (firstHeader bits)) ∷ framesFrom bits (firstHeader bits) ∷ [])) (header-decides ∙ said))
+    number-is : m ≡ framesFrom all (firstHeader all)
+    unfolding framesFrom
+    number-is = g ∙ ap (λ (l : List ℕ). length l / 588) (sym behind) ∙ ap (λ (l : ℕ). l / 588) (length-drop (firstHeader all) all)
+
+    pub on-done : (new : List ℕ) → Bytes new → FramesPut capture k (588 * m) new → outcome (done ((147 * m + 1) / 2 ∷ m ∷ [])) new ≡ replaying capture old
+    unfolding framesOf packed all
+    on-done new w put =
+        let said : headerSay all (firstHeader all) ≡ done (bytesFor (framesFrom all (firstHeader all)) ∷ framesFrom all (firstHeader all) ∷ [])
+        = simp (lt-ltb (firstHeader all) (length all) inside) in
+        let is : new ≡ filled 65536 (pack (bytesFor m) (take (588 * m) from ++ replicate (8 * bytesFor m - 588 * m) 0))
+        = frames-packed new from m w (put .long) (omega (arith, g)) (omega (arith, g, few)) (put .is) in
+        let same-frames : new ≡ filled 65536 (framesOf all)
+        = is ∙ ap (λ (l : List ℕ). filled 65536 (pack (bytesFor m) (take (588 * m) l ++ replicate (8 * bytesFor m - 588 * m) 0))) (sym behind)
+        ∙ ap (λ (x : ℕ). filled 65536 (packed all (firstHeader all) x)) number-is in
+        ap₂ (λ (x : ℕ) (l : List ℕ). outcome (done (bytesFor x ∷ x ∷ [])) l) number-is same-frames
+        ∙ sym (left capture old frames (b .clear .right .wiped) (done (bytesFor (framesFrom all (firstHeader all)) ∷ framesFrom all (firstHeader all) ∷ []))
+        (header-decides (b .clear) ∙ said))

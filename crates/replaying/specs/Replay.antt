@@ -2,7 +2,7 @@
 -- of b bits puts b-1 ZEROs after it, and the frames are the whole stretches of 588 bits from that header on, packed as a Section is (a last half
 -- byte is filled with zeros and counts as used), with their number").
 -- Assumes nothing.
-use mathlib.Core.Bool.{Bool, cond, not}
+use mathlib.Core.Bool.{cond, not}
 use mathlib.Core.List.{List, [], _∷_, _++_}
 use Prim.Native.Nat.{ℕ, _+_, _-_, _*_, _/_}
 use lib.Dec.{eqb, ltb}

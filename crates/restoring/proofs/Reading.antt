@@ -2,13 +2,13 @@
 -- Assumes nothing.
 use mathlib.Core.Path.{_≡_, refl, sym, ap, ap₂, _∙_}
 use mathlib.Core.List.{List, [], _∷_, _++_, append-assoc, append-nil}
-use Prim.Native.Nat.{ℕ, suc, _+_, _-_, _*_, _/_, _%_, _<_, _≤_}
+use Prim.Native.Nat.{ℕ, _+_, _-_, _*_, _/_, _%_, _<_, _≤_}
 use native.Mathlib.Omega.{arith}
 use lib.ListN.{length, take, drop, length-append, length-drop, drop-of-length-le}
 use Rattle.captures.specs.Counts.{bytesOf, Counts, onward, edges}
 use Rattle.captures.specs.Number.{shortest}
 use Rattle.captures.specs.Number.Leading.{leading-one, rest-one}
-use Rattle.captures.specs.Kept.{written, restored, captureOf, ListOf, filled}
+use Rattle.captures.specs.Kept.{written, captureOf, ListOf, filled}
 use Rattle.captures.specs.Kept.One.{some-bytes}
 use Rattle.captures.specs.Kept.Filled.{length-filled, filled-more, restored-from-0}
 use Rattle.restoring.specs.Inner.Leads.{Stands, NoneStands}

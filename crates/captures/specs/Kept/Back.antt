@@ -1,16 +1,18 @@
 -- There and back: a capture kept as a list comes back as the same bytes, and a list that is restored is kept as the same list.
 -- Assumes nothing.
-use mathlib.Core.Path.{_≡_, refl, sym, ap, ap₂, _∙_, subst}
-use mathlib.Core.List.{List, [], _∷_, _++_}
-use Prim.Native.Nat.{ℕ, _+_, _*_, _/_, _%_, _<_, _≤_}
+use mathlib.Core.Path.{_≡_, refl, sym, ap, _∙_, subst}
+use mathlib.Core.List.{List, [], _∷_}
+use Prim.Native.Nat.{ℕ, _*_, _%_, _≤_}
 use native.Mathlib.Omega.{arith}
+use borrow.Author.Tests.{eq-eqb, le-leb}
 use lib.ListN.{length, length-append}
 use Rattle.outcome.specs.Bytes.{Bytes}
-use Rattle.captures.specs.Counts.{countsOf, bytesOf, Counts, distances, edges}
+use Rattle.outcome.specs.Say.{done, outcome}
+use Rattle.captures.specs.Counts.{countsOf, bytesOf, Counts}
 use Rattle.captures.specs.Counts.Bytes.{bytes-counts, counts-bytes, counts-small, length-counts, length-bytes}
 use Rattle.captures.specs.Counts.Round.{edges-distances, distances-edges, distances-small, length-distances, length-edges}
 use Rattle.captures.specs.Number.{shortest}
-use Rattle.captures.specs.Kept.{kept, restored, written, ListOf, runList, captureOf}
+use Rattle.captures.specs.Kept.{kept, restored, written, ListOf, runList, captureOf, filled, keeping, Restores, is-list}
 use Rattle.captures.specs.Kept.One.{some-bytes}
 
 restored-kept : (cs : List ℕ) → Counts cs → restored (kept cs) ≡ cs
@@ -69,8 +71,23 @@ module _ (capture : List ℕ) (bytes : Bytes capture) (even : length capture % 2
   unfolding captureOf
   there-and-back = ap bytesOf (restored-kept (countsOf capture) (counts-small capture bytes)) ∙ bytes-counts capture bytes even
 
+  -- so what keeping leaves, restoring gives back
+  pub restores-kept : (old : List ℕ) → length old ≡ 65536 → Restores (runList capture) old (done (length capture ∷ [])) (filled 65536 capture)
+  restores-kept old h =
+      subst (λ (c : List ℕ). Restores (runList capture) old (done (length c ∷ [])) (filled 65536 c)) there-and-back (is-list list-fits h kept-list)
+
 -- list to capture to list
 pub back-and-there : (ns l : List ℕ) → ListOf ns l → runList (captureOf ns) ≡ l
 unfolding runList captureOf
 back-and-there ns l p =
     ap (λ (cs : List ℕ). written (kept cs)) (counts-bytes (restored ns)) ∙ ap written (kept-restored ns (p .small)) ∙ sym (p .is)
+
+-- so what restoring leaves, keeping gives back
+pub keeps-restored : (ns l old : List ℕ) → ListOf ns l → length old ≡ 98304 → keeping (captureOf ns) old ≡ outcome (done (length l ∷ [])) (filled 98304 l)
+unfolding keeping
+keeps-restored ns l old p h =
+    let e : length (captureOf ns) % 2 ≡ 0 = omega (arith, length-capture ns) in
+    let k : length (captureOf ns) ≤ 65536 = omega (arith, length-capture ns, p .few) in
+    let done-then : keeping (captureOf ns) old ≡ outcome (done (length (runList (captureOf ns)) ∷ [])) (filled 98304 (runList (captureOf ns)))
+    = simp (eq-eqb (length (captureOf ns) % 2) 0 e, le-leb (length (captureOf ns)) 65536 k, eq-eqb (length old) 98304 h) in
+    done-then ∙ ap (λ (t : List ℕ). outcome (done (length t ∷ [])) (filled 98304 t)) (back-and-there ns l p)

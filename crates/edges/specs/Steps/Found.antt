@@ -9,7 +9,6 @@ use lib.ListN.{length, getD}
 use Rattle.captures.specs.Counts.{countsOf, distance, runsOf}
 use Rattle.captures.specs.Counts.Bytes.{length-counts}
 use Rattle.captures.specs.Counts.Places.{length-runs, run-at}
-use Rattle.edges.specs.declared.Step.{Step}
 use Rattle.edges.specs.declared.Step.the-variants.{Run, End}
 use Rattle.edges.specs.Steps.{stepAt}
 

@@ -1,7 +1,7 @@
 -- The runs of a right capture put into a list of zeros.
 -- Assumes nothing.
 use mathlib.Core.Path.{_≡_}
-use mathlib.Core.List.{List, []}
+use mathlib.Core.List.{List}
 use Prim.Native.Nat.{ℕ, _%_, _≤_}
 use lib.ListN.{length, replicate}
 use Rattle.captures.specs.Kept.{runList, filled}

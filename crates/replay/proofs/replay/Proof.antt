@@ -2,7 +2,7 @@
 -- Assumes nothing.
 use native.Mathlib.Omega.{arith}
 use Rattle.replay.proofs.Legality.{illegal-within}
-use Rattle.replay.proofs.Ways.{on-odd, on-long, on-room, on-illegal, all-legal, on-nowhere, edge-there, frames-due, frames-few, on-done}
+use Rattle.replay.proofs.Ways.{Right, Clear, Begun, is-clear, is-begun, on-odd, on-long, on-room, on-illegal, all-legal, on-nowhere, edge-there, frames-due, frames-few, on-done}
 use borrow.Author.Needs.{needs}
 use Rattle.replay.proofs.replay.Statement.{statement}
 use Rattle.replay.proofs.replay.Tie as tie
@@ -37,23 +37,26 @@ add-if4 c = omega (arith, illegal-within _ _ (c .first-illegal .ensures))
 same-length-4 : tie.Need-same-length-4
 same-length-4 c = search needs
 
+-- ---- how far the code is
+
+right : (c : tie.Else3) → Right (c .before .before .before .before .before .before .before .before .before .args .capture .now) (c .before .before .before .before .before .before .before .before .before .args .frames .now) (c .before .before .before .before .before .wipe .last .0)
+right c = record { wiped = c .before .before .before .before .before .wipe .ensures; even = c .before .before .if1 .left; short = c .before .if2 .left; long = c .if3 .left }
+
+clear : (c : tie.Else4) → Clear (c .before .before .before .before .before .before .before .before .before .before .before .args .capture .now) (c .before .before .before .before .before .before .before .before .before .before .before .args .frames .now) (c .before .before .before .before .before .before .before .wipe .last .0)
+clear c = is-clear (right (c .before .before)) (c .before .first-illegal .result) (c .before .first-illegal .ensures) (c .if4 .left)
+
+begun : (c : tie.After-known-told) → Begun (c .before .before .before .before .before .before .before .before .before .before .before .before .before .before .before .args .capture .now) (c .before .before .before .before .before .before .before .before .before .before .before .before .before .before .before .args .frames .now) (c .before .before .before .before .before .before .before .before .before .before .before .wipe .last .0) (c .before .start .given .0 .0)
+begun c =
+    let asked = c .before .before .before in
+    is-begun (clear (asked .before)) (asked .first-header .result) (asked .first-header .ensures) (c .before .start .given .0 .0) (c .before .start .given .1)
+
+-- ---- the needs
+
 returns-4 : tie.Need-returns-4
-returns-4 c =
-    let right = c .before .before in
-    let wiped = right .before .before .before .before .before .wipe .ensures in
-    let even = right .before .before .if1 .left in
-    let old = right .before .before .before .before .before .before .before .before .before .args .frames .now in
-    let short = right .before .if2 .left in
-    on-illegal _ old _ wiped even short (right .if3 .left) _ (c .before .first-illegal .ensures) (c .if4 .taken)
+returns-4 c = on-illegal (right (c .before .before)) _ (c .before .first-illegal .ensures) (c .if4 .taken)
 
 first-header-requires : tie.Need-first-header-requires
-first-header-requires c κs =
-    let right = c .before .before in
-    let wiped = right .before .before .before .before .before .wipe .ensures in
-    let even = right .before .before .if1 .left in
-    let old = right .before .before .before .before .before .before .before .before .before .args .frames .now in
-    let short = right .before .if2 .left in
-    all-legal _ old _ wiped even short (right .if3 .left) _ (c .before .first-illegal .ensures) (c .if4 .left)
+first-header-requires c κs = all-legal (clear c)
 
 enum-known-start : tie.Need-enum-known-start
 enum-known-start c = search needs
@@ -65,93 +68,29 @@ same-length-5 : tie.Need-same-length-5
 same-length-5 c = search needs
 
 returns-5 : tie.Need-returns-5
-returns-5 c =
-    let right = c .before .before .before .before .before in
-    let wiped = right .before .before .before .before .before .wipe .ensures in
-    let even = right .before .before .if1 .left in
-    let old = right .before .before .before .before .before .before .before .before .before .args .frames .now in
-    let short = right .before .if2 .left in
-    on-nowhere _ old _ wiped even short (right .if3 .left) _ (c .before .before .before .before .first-illegal .ensures) (c .before .before .before .if4 .left) _
-    (c .before .before .first-header .ensures) (c .enum-told .given .1)
+returns-5 c = on-nowhere (clear (c .before .before .before)) _ (c .before .before .first-header .ensures) (c .enum-told .given .1)
 
 frames-from-requires : tie.Need-frames-from-requires
-frames-from-requires c κs =
-    let asked = c .before .before .before in
-    let right = asked .before .before .before in
-    let wiped = right .before .before .before .before .before .wipe .ensures in
-    let even = right .before .before .if1 .left in
-    let old = right .before .before .before .before .before .before .before .before .before .args .frames .now in
-    let short = right .before .if2 .left in
-    edge-there _ old _ wiped even short (right .if3 .left) _ (asked .before .before .first-illegal .ensures) (asked .before .if4 .left) _ (asked .first-header .ensures) _
-    (c .before .start .given .1)
+frames-from-requires c κs = edge-there (begun c)
 
 mul-put-frames : tie.Need-mul-put-frames
-mul-put-frames c =
-    let asked = c .before .before .before .before in
-    let right = asked .before .before .before in
-    let wiped = right .before .before .before .before .before .wipe .ensures in
-    let even = right .before .before .if1 .left in
-    let old = right .before .before .before .before .before .before .before .before .before .args .frames .now in
-    let short = right .before .if2 .left in
-    omega (
-      arith,
-      frames-few _ old _ wiped even short (right .if3 .left) _ (asked .before .before .first-illegal .ensures) (asked .before .if4 .left) _ (asked .first-header .ensures) _
-          (c .before .before .start .given .1) _ (c .frames-from .ensures),
-    )
+mul-put-frames c = omega (arith, frames-few (begun (c .before)) _ (c .frames-from .ensures))
 
 put-frames-requires : tie.Need-put-frames-requires
-put-frames-requires c κs =
-    let asked = c .before .before .before .before .before in
-    let right = asked .before .before .before in
-    let wiped = right .before .before .before .before .before .wipe .ensures in
-    let even = right .before .before .if1 .left in
-    let old = right .before .before .before .before .before .before .before .before .before .args .frames .now in
-    let short = right .before .if2 .left in
-    frames-due _ old _ wiped even short (right .if3 .left) _ (asked .before .before .first-illegal .ensures) (asked .before .if4 .left) _ (asked .first-header .ensures) _
-    (c .before .before .before .start .given .1) _ (c .before .frames-from .ensures)
+put-frames-requires c κs = frames-due (begun (c .before .before)) _ (c .before .frames-from .ensures)
 
 mul-t13 : tie.Need-mul-t13
-mul-t13 c =
-    let asked = c .before .before .before .before .before .before .before .before in
-    let right = asked .before .before .before in
-    let wiped = right .before .before .before .before .before .wipe .ensures in
-    let even = right .before .before .if1 .left in
-    let old = right .before .before .before .before .before .before .before .before .before .args .frames .now in
-    let short = right .before .if2 .left in
-    omega (
-      arith,
-      frames-few _ old _ wiped even short (right .if3 .left) _ (asked .before .before .first-illegal .ensures) (asked .before .if4 .left) _ (asked .first-header .ensures) _
-          (c .before .before .before .before .before .before .start .given .1) _ (c .before .before .before .before .frames-from .ensures),
-    )
+mul-t13 c = omega (arith, frames-few (begun (c .before .before .before .before .before)) _ (c .before .before .before .before .frames-from .ensures))
 
 add-t10 : tie.Need-add-t10
-add-t10 c =
-    let asked = c .before .before .before .before .before .before .before .before in
-    let right = asked .before .before .before in
-    let wiped = right .before .before .before .before .before .wipe .ensures in
-    let even = right .before .before .if1 .left in
-    let old = right .before .before .before .before .before .before .before .before .before .args .frames .now in
-    let short = right .before .if2 .left in
-    omega (
-      arith,
-      frames-few _ old _ wiped even short (right .if3 .left) _ (asked .before .before .first-illegal .ensures) (asked .before .if4 .left) _ (asked .first-header .ensures) _
-          (c .before .before .before .before .before .before .start .given .1) _ (c .before .before .before .before .frames-from .ensures),
-    )
+add-t10 c = omega (arith, frames-few (begun (c .before .before .before .before .before)) _ (c .before .before .before .before .frames-from .ensures))
 
 same-length-6 : tie.Need-same-length-6
 same-length-6 c = search needs
 
 returns-6 : tie.Need-returns-6
 returns-6 c =
-    let asked = c .before .before .before .before .before .before .before .before in
-    let right = asked .before .before .before in
-    let wiped = right .before .before .before .before .before .wipe .ensures in
-    let even = right .before .before .if1 .left in
-    let old = right .before .before .before .before .before .before .before .before .before .args .frames .now in
-    let short = right .before .if2 .left in
-    on-done _ old _ wiped even short (right .if3 .left) _ (asked .before .before .first-illegal .ensures) (asked .before .if4 .left) _ (asked .first-header .ensures) _
-    (c .before .before .before .before .before .before .start .given .1) _ (c .before .before .before .before .frames-from .ensures) _
-    (λ i. c .slice-known3 .given i .fits) (c .before .before .put-frames .ensures)
+    on-done (begun (c .before .before .before .before .before)) _ (c .before .before .before .before .frames-from .ensures) _ (λ i. c .slice-known3 .given i .fits) (c .before .before .put-frames .ensures)
 
 pub replay-spec : {M : Type 1} → statement M
 replay-spec =

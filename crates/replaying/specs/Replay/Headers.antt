@@ -13,7 +13,6 @@ use Rattle.outcome.specs.Table.{allBelow}
 use Rattle.outcome.specs.Table.Entries.{and-right, below}
 use Rattle.merging.specs.Rule.{header, starts}
 use Rattle.merging.specs.Rule.Headers.{starts-short}
-use Rattle.captures.specs.Counts.{bitsIn}
 use Rattle.replaying.specs.Replay.{channel}
 use Rattle.replaying.specs.Replay.Sizes.{Legal, bitsOfRuns, length-channel}
 

@@ -1,12 +1,11 @@
 -- How many bits legal runs make, and that their frames fit the outgoing buffer.
 -- Assumes nothing.
-use mathlib.Core.Path.{_≡_, refl, ap, _∙_}
-use mathlib.Core.List.{List, [], _∷_, _++_}
-use Prim.Native.Nat.{ℕ, suc, _+_, _-_, _*_, _/_, _<_, _≤_}
+use mathlib.Core.Path.{_≡_, refl}
+use mathlib.Core.List.{List, [], _∷_}
+use Prim.Native.Nat.{ℕ, _+_, _-_, _*_, _<_, _≤_}
 use native.Mathlib.Omega.{arith}
 use lib.ListN.{length, replicate, length-append, length-replicate}
 use Rattle.bits.specs.Bits.Packed.{length-pack}
-use Rattle.bits.specs.Bits.{pack}
 use Rattle.captures.specs.Counts.{bitsIn}
 use Rattle.replaying.specs.Replay.{channel, framesFrom, bytesFor, packed, framesOf, firstHeader}
 
@@ -36,6 +35,10 @@ bits-at-most (d ∷ ds) l = omega (arith, l .1, bits-at-most ds (l .2))
 pub length-frames : (bits : List ℕ) → length (framesOf bits) ≡ bytesFor (framesFrom bits (firstHeader bits))
 unfolding framesOf packed
 length-frames bits = length-pack (bytesFor (framesFrom bits (firstHeader bits))) _
+
+-- n frames take the bytes that their bits begin, so that a last half byte counts as used
+pub half-byte-counts : (n : ℕ) → (588 * n ≤ 8 * bytesFor n) × (8 * bytesFor n ≤ 588 * n + 4)
+half-byte-counts n = (omega arith, omega arith)
 
 -- the frames of up to 32,767 runs fit into 65,536 bytes
 pub frames-fit : (ds : List ℕ) → Legal ds → length ds < 32768 → (p : ℕ) → bytesFor (framesFrom (channel ds) p) ≤ 65536

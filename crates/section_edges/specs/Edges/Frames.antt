@@ -3,7 +3,7 @@
 use mathlib.Core.Path.{_≡_, refl, sym, ap, ap₂, _∙_}
 use mathlib.Core.Bool.{Bool, true, false, _&&_}
 use mathlib.Core.List.{List, [], _∷_, _++_, append-nil}
-use Prim.Native.Nat.{ℕ, zero, suc, _+_, _-_, _*_, _/_, _%_, _<_, _≤_}
+use Prim.Native.Nat.{ℕ, zero, suc, _+_, _-_, _*_, _<_, _≤_}
 use native.Mathlib.Omega.{arith}
 use lib.Dec.{eqb}
 use lib.ListN.{length, take, drop, replicate, length-append}
@@ -12,14 +12,14 @@ use Rattle.outcome.specs.Bytes.{Bytes}
 use Rattle.bits.specs.Bits.{unpack, pack}
 use Rattle.bits.specs.Bits.Packed.{length-unpack, pack-unpack}
 use Rattle.bits.specs.Binary.{Binary}
-use Rattle.words.specs.RunRule.{runs, gaps}
+use Rattle.words.specs.RunRule.{runs}
 use Rattle.merging.specs.Rule.{header, starts}
 use Rattle.replaying.specs.Replay.{channel, firstHeader, framesFrom, bytesFor, packed, framesOf}
 use Rattle.replaying.specs.Replay.Sizes.{Legal}
 use Rattle.replaying.specs.Replay.Edges.{header-here}
 use Rattle.stream_rules.specs.Offences.Stream.{binary-unpack}
 use Rattle.stream_rules.specs.Accepted.{Kept}
-use Rattle.section_edges.specs.Edges.{gapsFrom, gapsOf, Ticks}
+use Rattle.section_edges.specs.Edges.{gapsOf, Ticks}
 use Rattle.section_edges.specs.Edges.Bits.{gaps-channel, gaps-legal}
 
 never : {A : Type 0} → true ≡ false → A

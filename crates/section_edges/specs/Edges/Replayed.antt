@@ -1,9 +1,9 @@
 -- Replaying the edges of whole Sections gives these Sections: of any Sections that are accepted (document 02, §12), so of what our Section writer makes.
 -- Assumes nothing.
-use mathlib.Core.Path.{_≡_, refl, sym, ap, ap₂, _∙_, subst}
-use mathlib.Core.Bool.{Bool, true, false, not, _&&_}
+use mathlib.Core.Path.{_≡_, sym, ap, ap₂, _∙_, subst}
+use mathlib.Core.Bool.{Bool, true, false, not}
 use mathlib.Core.List.{List, [], _∷_, _++_}
-use Prim.Native.Nat.{ℕ, zero, suc, _+_, _-_, _*_, _/_, _%_, _<_, _≤_}
+use Prim.Native.Nat.{ℕ, zero, suc, _+_, _-_, _*_, _%_, _<_, _≤_}
 use native.Mathlib.Omega.{arith}
 use borrow.Author.Tests.{eq-eqb, le-leb, lt-ltb, le-ltb}
 use lib.ListN.{length, getD}
@@ -12,9 +12,9 @@ use Rattle.outcome.specs.First.Found.{found-first}
 use Rattle.outcome.specs.Say.{Say, done, outcome, answered}
 use Rattle.bits.specs.Bits.{unpack}
 use Rattle.merging.specs.Rule.{header}
-use Rattle.captures.specs.Counts.{countsOf, Counts, distances, edges, runsOf, bitsIn, legal}
+use Rattle.captures.specs.Counts.{countsOf, Counts, edges, runsOf, bitsIn, legal}
 use Rattle.captures.specs.Counts.Bytes.{counts-bytes}
-use Rattle.captures.specs.Counts.Round.{distances-edges, length-edges}
+use Rattle.captures.specs.Counts.Round.{distances-edges}
 use Rattle.captures.specs.Kept.{restored, captureOf, filled}
 use Rattle.captures.specs.Kept.Back.{length-capture}
 use Rattle.replaying.specs.Replay.{channel, channelOf, firstHeader, framesFrom, bytesFor, firstIllegal, framesOf, headerSay, runsSay, replaySay, replaying}
@@ -25,7 +25,7 @@ use Rattle.stream_rules.specs.Accepted.{Kept}
 use Rattle.stream_passes.specs.Written.{stream-kept}
 use Rattle.section_edges.specs.Edges.{gapsOf, Ticks}
 use Rattle.section_edges.specs.Edges.Bits.{legal-counts}
-use Rattle.section_edges.specs.Edges.Frames.{Turned, all-turned, header-first, bits-in-all, frames-in-all, frames-are}
+use Rattle.section_edges.specs.Edges.Frames.{all-turned, header-first, bits-in-all, frames-in-all, frames-are}
 
 -- ---- a capture of edges at some distances, from any first count on
 
