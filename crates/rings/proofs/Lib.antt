@@ -1,0 +1,4 @@
+mod Rest
+mod Swapping
+mod Moving
+mod Clamped

@@ -1,0 +1,29 @@
+-- A step of rings without their places' moving: each row that waits changes its byte for the oldest of its ring.
+-- Assumes nothing.
+use mathlib.Core.Path.{_≡_}
+use mathlib.Core.Bool.{Bool, cond, _&&_}
+use mathlib.Core.List.{List, [], _∷_, _++_}
+use Prim.Native.Nat.{ℕ, zero, suc, _<_}
+use lib.Dec.{ltb, leb}
+use lib.ListN.{length, take, drop, getD, set}
+pub mod Lines
+pub mod Parts
+
+-- whether a row that waits d steps has a place, below d, and its ring is whole
+abbrev pub rowFits : ℕ → List ℕ → List ℕ → Bool
+rowFits d ps s = ltb 0 (length ps) && (ltb (getD ps 0 0) d && leb d (length s))
+
+-- what comes out when the word w goes in; the first row that does not fit and those after it stay as they are
+unfoldable pub ringsOut : List ℕ → List ℕ → List ℕ → List ℕ → List ℕ
+ringsOut [] ps s w = w
+ringsOut (d ∷ ds) ps s [] = []
+ringsOut (zero ∷ ds) ps s (x ∷ w) = x ∷ ringsOut ds ps s w
+ringsOut (suc d ∷ ds) ps s (x ∷ w) = cond (rowFits (suc d) ps s) (getD s (getD ps 0 0) 0 ∷ ringsOut ds (drop 1 ps) (drop (suc d) s) w) (x ∷ w)
+
+-- the store after that: the byte that leaves is overwritten where it stood
+unfoldable pub ringsNext : List ℕ → List ℕ → List ℕ → List ℕ → List ℕ
+ringsNext [] ps s w = s
+ringsNext (d ∷ ds) ps s [] = s
+ringsNext (zero ∷ ds) ps s (x ∷ w) = ringsNext ds ps s w
+ringsNext (suc d ∷ ds) ps s (x ∷ w) =
+    cond (rowFits (suc d) ps s) (set (take (suc d) s) (getD ps 0 0) x ++ ringsNext ds (drop 1 ps) (drop (suc d) s) w) s
