@@ -13,17 +13,17 @@ use Rattle.outcome.specs.Buffer.Part.{end-back}
 use Rattle.rings.specs.Swap.{ringsOut, ringsNext}
 
 -- n, or as many as there are
-abbrev clamped : ℕ → ℕ → ℕ
+abbrev pub clamped : ℕ → ℕ → ℕ
 clamped n k = n - (n - k)
 
-take-clamped : (n : ℕ) (s : List ℕ) → take (clamped n (length s)) s ≡ take n s
+pub take-clamped : (n : ℕ) (s : List ℕ) → take (clamped n (length s)) s ≡ take n s
 take-clamped n s = by (lt-or-le n (length s))
   where
     by : (n < length s) ⊎ (length s ≤ n) → take (clamped n (length s)) s ≡ take n s
     by (inl h) = let e : clamped n (length s) ≡ n = omega arith in ap (λ (k : ℕ). take k s) e
     by (inr h) = take-all (clamped n (length s)) s (omega arith) ∙ sym (take-all n s h)
 
-drop-clamped : (n : ℕ) (s : List ℕ) → drop (clamped n (length s)) s ≡ drop n s
+pub drop-clamped : (n : ℕ) (s : List ℕ) → drop (clamped n (length s)) s ≡ drop n s
 drop-clamped n s = by (lt-or-le n (length s))
   where
     by : (n < length s) ⊎ (length s ≤ n) → drop (clamped n (length s)) s ≡ drop n s

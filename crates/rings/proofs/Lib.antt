@@ -2,3 +2,4 @@ mod Rest
 mod Swapping
 mod Moving
 mod Clamped
+mod Marked

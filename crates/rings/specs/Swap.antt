@@ -27,3 +27,15 @@ ringsNext (d ∷ ds) ps s [] = s
 ringsNext (zero ∷ ds) ps s (x ∷ w) = ringsNext ds ps s w
 ringsNext (suc d ∷ ds) ps s (x ∷ w) =
     cond (rowFits (suc d) ps s) (set (take (suc d) s) (getD ps 0 0) x ++ ringsNext ds (drop 1 ps) (drop (suc d) s) w) s
+
+-- ---- a word with as many marks behind it: the marks have rings of their own, from the byte `marks` of the store on, at their bytes' places
+
+-- the store when the word's own rows have changed their bytes
+unfoldable pub halfNext : List ℕ → List ℕ → List ℕ → ℕ → List ℕ → List ℕ
+halfNext ds ps s from w = take from s ++ ringsNext ds ps (drop from s) (take (length ds) w)
+
+unfoldable pub bothOut : List ℕ → List ℕ → List ℕ → (from marks : ℕ) → List ℕ → List ℕ
+bothOut ds ps s from marks w = ringsOut ds ps (drop from s) (take (length ds) w) ++ ringsOut ds ps (drop marks (halfNext ds ps s from w)) (drop (length ds) w)
+
+unfoldable pub bothNext : List ℕ → List ℕ → List ℕ → (from marks : ℕ) → List ℕ → List ℕ
+bothNext ds ps s from marks w = take marks (halfNext ds ps s from w) ++ ringsNext ds ps (drop marks (halfNext ds ps s from w)) (drop (length ds) w)

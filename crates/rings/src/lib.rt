@@ -7,7 +7,7 @@ ghost use lib.Dec.{ltb};
 ghost use lib.ListN.{take, drop};
 ghost use Rattle.rings.specs.Ring.{following};
 ghost use Rattle.rings.specs.Rings.{below, onward};
-ghost use Rattle.rings.specs.Swap.{ringsOut, ringsNext};
+ghost use Rattle.rings.specs.Swap.{ringsOut, ringsNext, bothOut, bothNext};
 
 // The smaller of two numbers.
 fn smaller(a: usize, b: usize) -> usize
@@ -112,4 +112,14 @@ pub fn turn(lens: &[u8], places: &[u8], first: usize, store: &mut [u8], from: us
     let start = smaller(first, places.len());
     let base = smaller(from, store.len());
     swap(lens, &places[start..], &mut store[base..], word);
+}
+
+// A word's rows, and behind them its marks, each through rings of their own at the same places; the marks' rings begin at the byte `marks`.
+pub fn turn_with_marks(lens: &[u8], places: &[u8], first: usize, store: &mut [u8], from: usize, marks: usize, word: &mut [u8])
+    ensures { λ _. ⌜ (now (word .exit) ≡ bothOut (now (lens .entry)) (drop first (now (places .entry))) (now (store .entry)) from marks (now (word .entry)))
+        × (now (store .exit) ≡ bothNext (now (lens .entry)) (drop first (now (places .entry))) (now (store .entry)) from marks (now (word .entry))) ⌝ }
+{
+    let rows = smaller(lens.len(), word.len());
+    turn(lens, places, first, store, from, &mut word[..rows]);
+    turn(lens, places, first, store, marks, &mut word[rows..]);
 }

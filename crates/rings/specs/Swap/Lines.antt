@@ -71,10 +71,19 @@ rings-next (suc d ∷ ds) (p ∷ ps) s (x ∷ w) (a, b, h) l m =
     ∙ sym (ap₂ (λ (u v : List ℕ). unrolled u q ++ unrolledAll ds (onward (waits ds) ps) v) (take-at r' t' (suc d) e') (drop-at r' t' (suc d) e'))
     ∙ sym (ap (λ (f : Bool). unrolledAll (suc d ∷ ds) (q ∷ onward (waits ds) ps) (cond f (r' ++ t') s)) (row-fits (suc d) (p ∷ ps) s a b (omega arith)))
 
--- the store keeps its length
+-- word and store keep their lengths
 either-length : (b : Bool) (t s : List ℕ) → length t ≡ length s → length (cond b t s) ≡ length s
 either-length true t s e = e
 either-length false t s e = refl
+
+pub length-rings-out : (ds ps s w : List ℕ) → length (ringsOut ds ps s w) ≡ length w
+unfolding ringsOut
+length-rings-out [] ps s w = refl
+length-rings-out (d ∷ ds) ps s [] = refl
+length-rings-out (zero ∷ ds) ps s (x ∷ w) = ap suc (length-rings-out ds ps s w)
+length-rings-out (suc d ∷ ds) ps s (x ∷ w) =
+    either-length (rowFits (suc d) ps s) (getD s (getD ps 0 0) 0 ∷ ringsOut ds (drop 1 ps) (drop (suc d) s) w) (x ∷ w)
+    (ap suc (length-rings-out ds (drop 1 ps) (drop (suc d) s) w))
 
 pub length-rings-next : (ds ps s w : List ℕ) → total ds ≤ length s → length (ringsNext ds ps s w) ≡ length s
 unfolding ringsNext total
