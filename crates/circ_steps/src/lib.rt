@@ -54,7 +54,8 @@ pub fn write(store: &mut [u8; 1552], places: &mut [u8; 55], frame: &[u8], out: &
     let next_places = next.places;
     *store = next_store;
     *places = next_places;
-    written(step.answer)
+    let answer = step.answer;
+    written(answer)
 }
 
 // The same of the reader.
@@ -72,5 +73,6 @@ pub fn read(store: &mut [u8; 3082], places: &mut [u8; 56], frame: &[u8], marks: 
     let next_places = next.places;
     *store = next_store;
     *places = next_places;
-    was_read(step.answer, doubt)
+    let answer = step.answer;
+    was_read(answer, doubt)
 }
