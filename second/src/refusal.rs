@@ -7,6 +7,7 @@ pub enum Refusal {
     WrongMode,
     WrongAddress,
     NoSectorNear,
+    WrongPlace,
     SectionsUsedUp,
     WrongState,
     WrongSync,
@@ -34,6 +35,7 @@ impl Refusal {
             WrongMode => 3,
             WrongAddress => 4,
             NoSectorNear => 5,
+            WrongPlace => 6,
             SectionsUsedUp => 7,
             WrongState => 9,
             WrongSync => 10,
@@ -89,6 +91,7 @@ mod tests {
             WrongMode,
             WrongAddress,
             NoSectorNear,
+            WrongPlace,
             SectionsUsedUp,
             WrongState,
             WrongSync,
@@ -105,7 +108,7 @@ mod tests {
             WrongWord { bit: 3 },
         ];
         let numbers: Vec<u8> = all.iter().map(|r| r.number()).collect();
-        assert_eq!(numbers, [1, 2, 3, 4, 5, 7, 9, 10, 11, 12, 13, 14, 15, 22, 23, 24, 25, 26, 27]);
+        assert_eq!(numbers, [1, 2, 3, 4, 5, 6, 7, 9, 10, 11, 12, 13, 14, 15, 22, 23, 24, 25, 26, 27]);
         let values: Vec<usize> = all.iter().filter_map(|r| r.value()).collect();
         assert_eq!(values, [85, 51, 1, 2, 3]);
     }

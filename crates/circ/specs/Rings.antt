@@ -7,7 +7,7 @@ use mathlib.Core.List.{List, [], _∷_, _++_}
 use lib.Dec.{eqb}
 use lib.ListN.{length, take, drop}
 use Rattle.outcome.specs.Say.{done, demand, oneThenTwo}
-use Rattle.calls.specs.Step.{Step, step, stepOf}
+use Rattle.calls.specs.Step.{Step, stepOf}
 use Rattle.lines.specs.Delay.{zeros}
 use Rattle.rings.specs.Rings.{waits, below, onward, unrolledAll}
 use Rattle.circ.specs.Rows.{beforeC2, between, afterC1, readerBeforeC1, readerBetween, readerAfterC2}

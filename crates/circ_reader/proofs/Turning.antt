@@ -15,7 +15,7 @@ use Rattle.rings.specs.Swap.{ringsOut, ringsNext, bothOut, bothNext}
 use Rattle.rings.specs.Section.{Stands, Turned}
 use Rattle.rings.specs.Section.Turn.{turned, turned-store}
 use Rattle.rings.specs.Section.Both.{both-turned, both-store}
-use Rattle.rings.specs.Chain.{chain-out, chain-next}
+use Rattle.rings.specs.Section.Chain.{chain-out, chain-next}
 use Rattle.circ.specs.Rows.{collected, doubt, readerBeforeC1, readerBetween, readerAfterC2}
 use Rattle.circ.specs.Marked.{twice, entering, passC1, passC2, markedNext, markedRows}
 use Rattle.circ.specs.Rings.{readerWaits, markedWaits, shared}

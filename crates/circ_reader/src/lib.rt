@@ -13,15 +13,16 @@ ghost use Rattle.circ_reader.specs.Answers.{sayOf};
 ghost use Rattle.calls.specs.Step.{step};
 ghost use Rattle.circ_reader.specs.Inner.Reading.{ReaderAsks, ReaderGone};
 
+mod ring_lengths;
 mod waits;
 
 use circ_codes::enter;
 use circ_codes::pass_c1;
 use circ_codes::pass_c2;
+use ring_lengths::RING_LENGTHS;
 use waits::AFTER_C2;
 use waits::BEFORE_C1;
 use waits::BETWEEN;
-use waits::WAITS;
 
 // 16 bytes in as many rows wait before C1 and 1,512 in 27 between C1 and C2, each with its mark, and 24 bytes and two doubts in 13 after C2. Any mark but 0 marks.
 pub struct CircReader {
@@ -78,7 +79,7 @@ fn collect(rows: &[u8]) -> [u8; 24]
 
 // Whether either of the two marks is set.
 fn answer_by(rows: &[u8]) -> ReaderAnswer
-    requires { ⌜ length (now rows) ≡ 30 ⌝ }
+    requires { ⌜ 30 ≤ length (now rows) ⌝ }
     ensures { λ r. ⌜ sayOf r ≡ done (doubt (now (rows .entry)) ∷ []) ⌝ }
 {
     if rows[28] != 0 {
@@ -104,7 +105,7 @@ fn take_in(frame: &[u8], marks: &[u8]) -> [u8; 64]
 
 // The F1-frame in the rows goes out, and is sure or in doubt.
 fn hand_out(rows: &[u8], out: &mut [u8]) -> ReaderAnswer
-    requires { ⌜ (length (now rows) ≡ 30) × (length (now out) ≡ 24) ⌝ }
+    requires { ⌜ (30 ≤ length (now rows)) × (length (now out) ≡ 24) ⌝ }
     ensures { λ r. ⌜ (sayOf r ≡ done (doubt (now (rows .entry)) ∷ [])) × (now (out .exit) ≡ collected (now (rows .entry))) ⌝ }
 {
     let f1 = collect(rows);
@@ -136,7 +137,7 @@ impl CircReader {
         rings::turn_with_marks(&BETWEEN, &places, 16, &mut store, 32, 1544, &mut c2);
         let mut rows = pass_c2(c2);
         rings::turn(&AFTER_C2, &places, 43, &mut store, 3056, &mut rows);
-        rings::onward(&WAITS, &mut places);
+        rings::onward(&RING_LENGTHS, &mut places);
         let answer = hand_out(&rows, out);
         ReaderStep {
             next: CircReader { store, places },
@@ -174,7 +175,7 @@ impl CircReader {
         if out.len() != 24 {
             return self.refuse(ReaderAnswer::WrongOutgoing);
         }
-        if !rings::below(&WAITS, &self.places) {
+        if !rings::below(&RING_LENGTHS, &self.places) {
             return self.refuse_and_wipe(ReaderAnswer::WrongPlace, out);
         }
         self.go(frame, marks, out)

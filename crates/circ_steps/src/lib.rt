@@ -59,7 +59,14 @@ pub fn write(store: &mut [u8; 1552], places: &mut [u8; 55], frame: &[u8], out: &
 }
 
 // The same of the reader.
-pub fn read(store: &mut [u8; 3082], places: &mut [u8; 56], frame: &[u8], marks: &[u8], out: &mut [u8], doubt: &mut [u64; 1]) -> u8
+pub fn read(
+    store: &mut [u8; 3082],
+    places: &mut [u8; 56],
+    frame: &[u8],
+    marks: &[u8],
+    out: &mut [u8],
+    doubt: &mut [u64; 1],
+) -> u8
     ensures { λ r. ⌜ Told 1 (λ say. step say (readerRings (now (places .exit)) (now (store .exit))) (now (out .exit))
         ≡ readsInPlace (readerRings (now (places .entry)) (now (store .entry))) (now (frame .entry)) (now (marks .entry)) (now (out .entry))) r (now (doubt .exit)) ⌝ }
 {

@@ -13,7 +13,7 @@ use Rattle.rings.specs.Rings.Places.{InPlace, below-in-place, in-place-parts}
 use Rattle.rings.specs.Swap.{ringsOut, ringsNext}
 use Rattle.rings.specs.Section.{Stands, Turned}
 use Rattle.rings.specs.Section.Turn.{turned, turned-store}
-use Rattle.rings.specs.Chain.{chain-out, chain-next}
+use Rattle.rings.specs.Section.Chain.{chain-out, chain-next}
 use Rattle.circ.specs.Rows.{placed, beforeC2, between, afterC1, inverted}
 use Rattle.circ.specs.Chains.{withQ, withP, writerOut, writerNext}
 use Rattle.circ.specs.Codes.{qOf, pOf}

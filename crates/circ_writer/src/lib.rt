@@ -11,12 +11,13 @@ ghost use Rattle.lines.specs.Delay.{zeros};
 ghost use Rattle.calls.specs.Step.{step};
 ghost use Rattle.circ.specs.Rings.{writerRings, writesInPlace};
 
+mod ring_lengths;
 mod waits;
 
+use ring_lengths::RING_LENGTHS;
 use waits::AFTER_C1;
 use waits::BEFORE_C2;
 use waits::BETWEEN;
-use waits::WAITS;
 
 // 24 bytes in 12 rows wait before C2, 1,512 in 27 between C2 and C1, and 16 in as many after C1.
 pub struct CircWriter {
@@ -123,7 +124,7 @@ impl CircWriter {
         rings::turn(&AFTER_C1, &places, 39, &mut store, 1536, &mut c1);
         let f2 = circ::invert(c1);
         outcome::copy(&f2, out);
-        rings::onward(&WAITS, &mut places);
+        rings::onward(&RING_LENGTHS, &mut places);
         CircWriter { store, places }
     }
 
@@ -146,7 +147,7 @@ impl CircWriter {
         if out.len() != 32 {
             return self.refuse(WriterAnswer::WrongOutgoing);
         }
-        if !rings::below(&WAITS, &self.places) {
+        if !rings::below(&RING_LENGTHS, &self.places) {
             outcome::wipe(out, 32);
             return self.refuse(WriterAnswer::WrongPlace);
         }

@@ -4,4 +4,3 @@ pub mod Rings
 -- a step of them
 pub mod Swap
 pub mod Section
-pub mod Chain

@@ -10,6 +10,7 @@ use Rattle.rings.specs.Rings.Places.{InPlace}
 pub mod Turn
 pub mod Beside
 pub mod Both
+pub mod Chain
 
 -- rows that wait ds have the places ps and the part s of the store, behind others and before others
 pub record Stands (ds places store : List ℕ) (first from : ℕ) (before ps behind done s rest : List ℕ) : Type 0 where

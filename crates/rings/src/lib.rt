@@ -105,7 +105,14 @@ pub fn swap(lens: &[u8], places: &[u8], store: &mut [u8], word: &mut [u8])
 }
 
 // The same where a stage's places and its part of the store begin somewhere behind others.
-pub fn turn(lens: &[u8], places: &[u8], first: usize, store: &mut [u8], from: usize, word: &mut [u8])
+pub fn turn(
+    lens: &[u8],
+    places: &[u8],
+    first: usize,
+    store: &mut [u8],
+    from: usize,
+    word: &mut [u8],
+)
     ensures { λ _. ⌜ (now (word .exit) ≡ ringsOut (now (lens .entry)) (drop first (now (places .entry))) (drop from (now (store .entry))) (now (word .entry)))
         × (now (store .exit) ≡ take from (now (store .entry)) ++ ringsNext (now (lens .entry)) (drop first (now (places .entry))) (drop from (now (store .entry))) (now (word .entry))) ⌝ }
 {
@@ -115,7 +122,15 @@ pub fn turn(lens: &[u8], places: &[u8], first: usize, store: &mut [u8], from: us
 }
 
 // A word's rows, and behind them its marks, each through rings of their own at the same places; the marks' rings begin at the byte `marks`.
-pub fn turn_with_marks(lens: &[u8], places: &[u8], first: usize, store: &mut [u8], from: usize, marks: usize, word: &mut [u8])
+pub fn turn_with_marks(
+    lens: &[u8],
+    places: &[u8],
+    first: usize,
+    store: &mut [u8],
+    from: usize,
+    marks: usize,
+    word: &mut [u8],
+)
     ensures { λ _. ⌜ (now (word .exit) ≡ bothOut (now (lens .entry)) (drop first (now (places .entry))) (now (store .entry)) from marks (now (word .entry)))
         × (now (store .exit) ≡ bothNext (now (lens .entry)) (drop first (now (places .entry))) (now (store .entry)) from marks (now (word .entry))) ⌝ }
 {

@@ -3,7 +3,7 @@
 use Prim.Native.Nat.{ℕ}
 use mathlib.Core.Path.{_≡_, refl, sym, ap, _∙_}
 use mathlib.Core.Bool.{true}
-use mathlib.Core.List.{List, _++_}
+use mathlib.Core.List.{List}
 use native.Mathlib.Omega.{arith}
 use lib.ListN.{length}
 use Rattle.lines.specs.Delay.{total, zeros}
@@ -12,7 +12,7 @@ use Rattle.rings.specs.Rings.Back.{store-one}
 use Rattle.rings.specs.Rings.Fresh.{at-rest, fresh-below}
 use Rattle.circ.specs.Rows.{beforeC2, between, afterC1, readerBeforeC1, readerBetween, readerAfterC2}
 use Rattle.circ.specs.Chains.{freshWriter}
-use Rattle.circ.specs.Marked.{twice, freshReader}
+use Rattle.circ.specs.Marked.{freshReader}
 use Rattle.circ.specs.Rings.{Rings, ringsAt, writerWaits, writerRings, freshWriterRings, readerWaits, markedWaits, shared, readerRings, freshReaderRings}
 
 known : (ds ps qs : List ℕ) (spread : List ℕ → List ℕ) (s t : List ℕ) → total ds ≡ length s → total ds ≡ length t

@@ -2,7 +2,7 @@
 -- Assumes nothing.
 use mathlib.Core.Path.{sym}
 use native.Mathlib.Omega.{arith}
-use lib.ListN.{length, drop}
+use lib.ListN.{drop}
 use lib.Seq.{length-take-le}
 use Rattle.rings.proofs.Marked.{both-out, both-next}
 use borrow.Author.Needs.{needs}

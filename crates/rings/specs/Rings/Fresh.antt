@@ -1,12 +1,12 @@
 -- With every place at 0 the store is the lines as they stand; so a fresh store of rings is a fresh store of lines. Zeros are zeros at any places.
 -- Assumes nothing.
-use mathlib.Core.Path.{_≡_, refl, ap, ap₂, _∙_}
+use mathlib.Core.Path.{_≡_, refl, ap₂, _∙_}
 use mathlib.Core.Bool.{true}
 use mathlib.Core.List.{List, [], _∷_, _++_}
 use Prim.Native.Nat.{ℕ, zero, suc}
 use native.Mathlib.Omega.{arith}
 use borrow.Author.Tests.{lt-ltb}
-use lib.ListN.{length, take, drop, replicate, take-append-drop}
+use lib.ListN.{length, take, drop, take-append-drop}
 use Rattle.lines.specs.Delay.{total, zeros}
 use Rattle.rings.specs.Ring.Turns.{unrolled-first}
 use Rattle.rings.specs.Rings.{waits, below, unrolledAll}

@@ -1,13 +1,13 @@
 -- Places that are legal: below their rows' waits, and as many as rows wait. A step leaves them legal.
 -- Assumes nothing.
-use mathlib.Core.Path.{_≡_, refl, sym, ap, _∙_}
+use mathlib.Core.Path.{_≡_, refl, ap}
 use mathlib.Core.Bool.{Bool, true, false, _&&_}
 use mathlib.Core.List.{List, [], _∷_, _++_}
 use Prim.Native.Nat.{ℕ, zero, suc, _+_, _<_}
 use native.Mathlib.Omega.{arith}
 use borrow.Author.Tests.{ltb-true, lt-ltb}
 use lib.Dec.{ltb}
-use lib.ListN.{length, take, drop, getD, length-append, length-drop}
+use lib.ListN.{length, take, drop, getD, length-drop}
 use Rattle.rings.specs.Ring.{following}
 use Rattle.rings.specs.Ring.Turns.{following-below}
 use Rattle.rings.specs.Rings.{waits, below, onward}

@@ -1,7 +1,7 @@
 -- Only the first places and the first part of the store, as many as the rows need, take part in a step; the rest stays.
 -- Assumes nothing.
 use mathlib.Core.Path.{_≡_, refl, sym, ap, ap₂, _∙_}
-use mathlib.Core.Bool.{Bool, true, cond}
+use mathlib.Core.Bool.{Bool, cond}
 use mathlib.Core.List.{List, [], _∷_, _++_, append-assoc}
 use Prim.Native.Nat.{ℕ, zero, suc, _+_, _<_, _≤_}
 use native.Mathlib.Omega.{arith}
@@ -9,7 +9,7 @@ use lib.ListN.{length, take, drop, getD, set, length-append, length-drop}
 use lib.Seq.{take-append-le, drop-append-le, getD-take}
 use Rattle.lines.specs.Delay.{total}
 use Rattle.rings.specs.Rings.Places.{InPlace}
-use Rattle.rings.specs.Swap.{rowFits, ringsOut, ringsNext}
+use Rattle.rings.specs.Swap.{ringsOut, ringsNext}
 use Rattle.rings.specs.Swap.Lines.{row-fits}
 
 -- a byte of the first part

@@ -1,9 +1,7 @@
 -- `circ_writer::CircWriter::step` meets its contract: the three tests are the three demands, in their order; `go` is the step itself.
 -- Assumes nothing.
-use mathlib.Core.Path.{_≡_, sym, ap₂, _∙_}
-use mathlib.Core.Bool.{true, false}
-use mathlib.Core.List.{List, []}
-use Prim.Native.Nat.{ℕ}
+use mathlib.Core.Path.{sym, ap₂, _∙_}
+use mathlib.Core.List.{[]}
 use borrow.Author.Tests.{eq-eqb, ne-eqb, not-true, not-false}
 use lib.ListN.{length}
 use Rattle.circ_writer.specs.declared.WriterAnswer.{WriterAnswer}
