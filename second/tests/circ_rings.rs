@@ -61,7 +61,9 @@ impl Reader {
 /// Marks of all numbers, few of which say that a byte is lost.
 fn some_marks(random: &mut Random) -> Vec<u8> {
     let lost = [0, 0, 1, 4][random.below(4)];
-    (0..32).map(|_| if random.below(30) == 0 { lost } else { [0, 2, 3, 5, 255][random.below(5)] }).collect()
+    (0..32)
+        .map(|_| if random.below(30) == 0 { lost } else { [0, 2, 3, 5, 255][random.below(5)] })
+        .collect()
 }
 
 /// A wrong length now and then: one of these in place of the right one.
@@ -121,18 +123,20 @@ fn from_any_state() {
     let mut random = Random::new(2);
     for _ in 0..400 {
         let store = random.bytes(1552).try_into().expect("1,552");
-        let mut writer = Writer { store, places: any_places(&mut random, &rings::writer_lengths()) };
+        let mut writer =
+            Writer { store, places: any_places(&mut random, &rings::writer_lengths()) };
         for _ in 0..5 {
             let (frame, outgoing) = (random.bytes(24), length(&mut random, 32));
             writer.step(&frame, outgoing);
         }
         let mut store: [u8; 3082] = random.bytes(3082).try_into().expect("3,082");
         if random.below(2) == 0 {
-            for byte in store[16..32].iter_mut().chain(&mut store[1544..3056]) {
-                *byte = if *byte < 8 { *byte } else { 0 };
+            for at in (16..32).chain(1544..3056) {
+                store[at] = if store[at] < 8 { store[at] } else { 0 };
             }
         }
-        let mut reader = Reader { store, places: any_places(&mut random, &rings::reader_lengths()) };
+        let mut reader =
+            Reader { store, places: any_places(&mut random, &rings::reader_lengths()) };
         for _ in 0..5 {
             let (frame, marks) = (random.bytes(32), some_marks(&mut random));
             let outgoing = length(&mut random, 24);
