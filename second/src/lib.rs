@@ -5,6 +5,7 @@ pub mod channel;
 pub mod circ;
 pub mod codeword;
 pub mod control;
+pub mod data_frame;
 pub mod edc;
 pub mod empties;
 pub mod field;

@@ -2,11 +2,13 @@
 //! of the refusal, and puts the values that come with it into lent memory, with zeros behind them.
 
 mod controls;
+mod data_frames;
 mod runs;
 mod sectors;
 mod words;
 
 pub use controls::*;
+pub use data_frames::*;
 pub use runs::*;
 pub use sectors::*;
 pub use words::*;

@@ -24,6 +24,10 @@ pub enum Refusal {
     WrongRun { bit: usize },
     WrongHeader { bit: usize },
     WrongWord { bit: usize },
+    WrongIdentification,
+    WrongFrameEdc,
+    ReservedBit,
+    PastTheEnd,
 }
 
 use Refusal::*;
@@ -54,6 +58,10 @@ impl Refusal {
             WrongRun { .. } => 25,
             WrongHeader { .. } => 26,
             WrongWord { .. } => 27,
+            WrongIdentification => 28,
+            WrongFrameEdc => 29,
+            ReservedBit => 30,
+            PastTheEnd => 31,
         }
     }
 
@@ -112,9 +120,13 @@ mod tests {
             WrongRun { bit: 1 },
             WrongHeader { bit: 2 },
             WrongWord { bit: 3 },
+            WrongIdentification,
+            WrongFrameEdc,
+            ReservedBit,
+            PastTheEnd,
         ];
         let numbers: Vec<u8> = all.iter().map(|r| r.number()).collect();
-        assert_eq!(numbers, [1, 2, 3, 4, 5, 7, 9, 10, 11, 12, 13, 14, 15, 16, 17, 18, 22, 23, 24, 25, 26, 27]);
+        assert_eq!(numbers, [1, 2, 3, 4, 5, 7, 9, 10, 11, 12, 13, 14, 15, 16, 17, 18, 22, 23, 24, 25, 26, 27, 28, 29, 30, 31]);
         let values: Vec<usize> = all.iter().filter_map(|r| r.value()).collect();
         assert_eq!(values, [85, 51, 1, 2, 3]);
     }

@@ -25,7 +25,7 @@ impl HeaderTime {
     }
 
     // Whether the minute is one of the Lead-in Area, where (A0) is added to it.
-    fn in_lead_in(self) -> bool
+    pub fn in_lead_in(self) -> bool
         ensures { λ r. ⌜ r ≡ inLeadIn self ⌝ }
     {
         let minute = self.0;
@@ -70,7 +70,7 @@ impl HeaderTime {
     }
 
     // The same in 75ths of a second.
-    fn elapsed(self) -> u32
+    pub fn elapsed(self) -> u32
         ensures { λ r. ⌜ r ≡ elapsed self ⌝ }
     {
         let minutes = self.minutes();

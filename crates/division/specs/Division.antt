@@ -7,6 +7,7 @@ use Rattle.division.specs.Polynomial.{plus, scaled}
 pub mod Lengths
 pub mod Linear
 pub mod Check
+pub mod Register
 
 -- One line of the division: the next coefficient c is brought down beside the remainder r, and the divisor is taken away as often
 -- as the highest coefficient says, 0 times or once. The highest coefficient is 0 then and is dropped.

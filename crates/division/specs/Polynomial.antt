@@ -10,6 +10,7 @@ pub mod Lengths
 pub mod Sums
 pub mod Numbers
 pub mod Zeros
+pub mod Bytes
 
 -- each coefficient is 0 or 1
 abbrev pub Coefficients : List ℕ → Type 0

@@ -13,6 +13,12 @@ use Rattle.repair.specs.Repair.{Repairs}
 use Rattle.repair.specs.Repair.One.{repair-one}
 use Rattle.salvaging.specs.Salvage.{Salvages}
 use Rattle.salvaging.specs.Salvage.One.{salvages-one}
+use Rattle.data_frame.specs.declared.Fields.{Fields}
+use Rattle.frame_reader.specs.Reading.{reading}
+use Rattle.frame_writer.specs.Framing.{Frames}
+use Rattle.frame_writer.specs.Framing.One.{framing-one}
+use Rattle.carrying.specs.Carry.{Carries}
+use Rattle.carrying.specs.Carry.One.{carry-one}
 use Rattle.section_reader.specs.ReadSay.{ReadOut, readOut}
 use Rattle.told.specs.Told.{Told}
 use Rattle.told.specs.Told.One.{told-one}
@@ -53,3 +59,16 @@ module _ {x y : ℕ} {v w : List ℕ} where
       → (x ≡ y) × (v ≡ w) × ((s ≡ t) × (m ≡ n))
   read-one o s t m n =
       told-one (λ a b e f. (ap (λ (z : ReadOut). z .say) (e ∙ sym f), (ap (λ (z : ReadOut). z .bytes) (e ∙ sym f), ap (λ (z : ReadOut). z .marks) (e ∙ sym f))))
+
+  -- Data Frames: reading with the fields, writing, and carrying over
+  pub frame-read-one : (frame old s t : List ℕ) → Told 13 (λ say. outcome say s ≡ reading frame old) x v → Told 13 (λ say. outcome say t ≡ reading frame old) y w
+      → (x ≡ y) × (v ≡ w) × (s ≡ t)
+  frame-read-one frame old s t = told-one (λ a b e f. (ap (λ (z : Outcome). z .say) (e ∙ sym f), ap (λ (z : Outcome). z .out) (e ∙ sym f)))
+
+  pub frame-written-one : (fields : Fields) (main old s t : List ℕ) → Told 0 (λ say. Frames fields main old say s) x v
+      → Told 0 (λ say. Frames fields main old say t) y w → (x ≡ y) × (v ≡ w) × (s ≡ t)
+  frame-written-one fields main old s t = told-one (λ a b p q. framing-one p q)
+
+  pub carried-one : (frames : List ℕ) (start : HeaderTime) (old s t : List ℕ) → Told 0 (λ say. Carries frames start old say s) x v
+      → Told 0 (λ say. Carries frames start old say t) y w → (x ≡ y) × (v ≡ w) × (s ≡ t)
+  carried-one frames start old s t = told-one (λ a b p q. carry-one p q)

@@ -4,6 +4,7 @@ mod batches;
 mod circ_running;
 mod codewords;
 mod controls;
+mod data_frames;
 mod elements;
 mod frames;
 mod judging;

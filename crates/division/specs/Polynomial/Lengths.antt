@@ -1,16 +1,31 @@
 -- How long sums and products of polynomials are, and that their coefficients are 0 or 1.
 -- Assumes nothing.
 use mathlib.Core.Path.{_≡_, refl, ap}
+use mathlib.Core.Bool.{Bool, true, false, cond}
 use mathlib.Core.List.{List, [], _∷_, _++_}
 use Prim.Native.Nat.{ℕ, zero, suc, _+_, _-_, _*_, _%_, _<_}
 use native.Mathlib.Nat.{zero-lt-suc, suc-inj, suc-ne-zero}
 use native.Mathlib.Omega.{arith}
+use lib.Dec.{eqb}
 use lib.ListN.{length, replicate}
-use Rattle.division.specs.Polynomial.{Coefficients, plus, scaled, product}
+use Rattle.division.specs.Polynomial.{Coefficients, plus, scaled, product, named, powers}
 
 pub coefs-zeros : (n : ℕ) → Coefficients (replicate n 0)
 coefs-zeros zero = tt
 coefs-zeros (suc n) = (zero-lt-suc 1, coefs-zeros n)
+
+-- the powers that a list names
+pub coefs-powers : (n : ℕ) (ps : List ℕ) → Coefficients (powers n ps)
+coefs-powers zero ps = tt
+coefs-powers (suc n) ps = (once ps, coefs-powers n ps)
+  where
+    by : (b : Bool) (x : ℕ) → x < 2 → cond b 1 x < 2
+    by true x h = omega arith
+    by false x h = h
+
+    once : (ps : List ℕ) → named n ps < 2
+    once [] = omega arith
+    once (p ∷ ps) = by (eqb n p) (named n ps) (once ps)
 
 pub coefs-plus : (cs ds : List ℕ) → Coefficients (plus cs ds)
 coefs-plus [] ds = tt

@@ -1,0 +1,3 @@
+pub mod Looking
+pub mod Writing
+pub mod Ways

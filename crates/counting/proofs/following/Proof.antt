@@ -1,0 +1,25 @@
+-- `counting::following` meets its contract: where there is no room for another Sector the address stays.
+-- Assumes nothing.
+use mathlib.Core.Path.{sym, _∙_}
+use borrow.Author.Tests.{not-true, not-false}
+use Rattle.counting.specs.Count.{following}
+use borrow.Author.Needs.{needs}
+use Rattle.counting.proofs.following.Statement.{statement}
+use Rattle.counting.proofs.following.Tie as tie
+
+fits-requires : tie.Need-fits-requires
+fits-requires c κs = search needs
+
+returns : tie.Need-returns
+unfolding following
+returns c = simp (sym (c .before .fits2 .ensures) ∙ not-true _ (c .if1 .taken))
+
+next-requires : tie.Need-next-requires
+next-requires c κs = sym (c .before .fits2 .ensures) ∙ not-false _ (c .if1 .left)
+
+returns-2 : tie.Need-returns-2
+unfolding following
+returns-2 c = simp (sym (c .before .before .fits2 .ensures) ∙ not-false _ (c .before .if1 .left), c .next .ensures)
+
+pub following-spec : {M : Type 1} → statement M
+following-spec = tie.close (tie.spec fits-requires returns next-requires returns-2)

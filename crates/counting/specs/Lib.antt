@@ -1,0 +1,2 @@
+-- the next address
+pub mod Count

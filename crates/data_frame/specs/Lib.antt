@@ -1,0 +1,2 @@
+-- ISO/IEC 16449, clause 16
+pub mod DataFrame

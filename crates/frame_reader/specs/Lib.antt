@@ -1,0 +1,2 @@
+-- what reading a Data Frame answers and hands out
+pub mod Reading
