@@ -1,6 +1,7 @@
 //! An independent implementation, written from ECMA-130 and document 01 in the plainest way: the peer of the proved crates in differential tests.
 
 pub mod alignment;
+pub mod captures;
 pub mod channel;
 pub mod circ;
 pub mod codeword;

@@ -3,12 +3,14 @@
 
 mod controls;
 mod data_frames;
+mod captures;
 mod runs;
 mod sectors;
 mod words;
 
 pub use controls::*;
 pub use data_frames::*;
+pub use captures::*;
 pub use runs::*;
 pub use sectors::*;
 pub use words::*;

@@ -18,6 +18,9 @@ pub enum Refusal {
     WrongCrc,
     WrongQMode,
     WrongField,
+    WrongNumber,
+    IllegalRun { run: usize },
+    NoHeader,
     WrongPasses,
     UnknownPlace,
     NoSync,
@@ -52,6 +55,9 @@ impl Refusal {
             WrongCrc => 16,
             WrongQMode => 17,
             WrongField => 18,
+            WrongNumber => 19,
+            IllegalRun { .. } => 20,
+            NoHeader => 21,
             WrongPasses => 22,
             UnknownPlace => 23,
             NoSync => 24,
@@ -65,10 +71,11 @@ impl Refusal {
         }
     }
 
-    /// The value that comes with 13 and 14, the number of a codeword, and with 25 to 27, a bit position; no other number has one.
+    /// The value that comes with 13 and 14, the number of a codeword, with 20, the index of a run, and with 25 to 27, a bit position; no other number has one.
     pub fn value(self) -> Option<usize> {
         match self {
             WrongP { codeword } | WrongQ { codeword } => Some(codeword),
+            IllegalRun { run } => Some(run),
             WrongRun { bit } | WrongHeader { bit } | WrongWord { bit } => Some(bit),
             _ => None,
         }
@@ -96,7 +103,7 @@ mod tests {
     }
 
     #[test]
-    fn numbers_differ_and_five_have_a_value() {
+    fn numbers_differ_and_six_have_a_value() {
         let all = [
             WrongIncoming,
             WrongOutgoing,
@@ -114,6 +121,9 @@ mod tests {
             WrongCrc,
             WrongQMode,
             WrongField,
+            WrongNumber,
+            IllegalRun { run: 4 },
+            NoHeader,
             WrongPasses,
             UnknownPlace,
             NoSync,
@@ -126,8 +136,8 @@ mod tests {
             PastTheEnd,
         ];
         let numbers: Vec<u8> = all.iter().map(|r| r.number()).collect();
-        assert_eq!(numbers, [1, 2, 3, 4, 5, 7, 9, 10, 11, 12, 13, 14, 15, 16, 17, 18, 22, 23, 24, 25, 26, 27, 28, 29, 30, 31]);
+        assert_eq!(numbers, [1, 2, 3, 4, 5, 7, 9, 10, 11, 12, 13, 14, 15, 16, 17, 18, 19, 20, 21, 22, 23, 24, 25, 26, 27, 28, 29, 30, 31]);
         let values: Vec<usize> = all.iter().filter_map(|r| r.value()).collect();
-        assert_eq!(values, [85, 51, 1, 2, 3]);
+        assert_eq!(values, [85, 51, 4, 1, 2, 3]);
     }
 }

@@ -19,6 +19,8 @@ use Rattle.frame_writer.specs.Framing.{Frames}
 use Rattle.frame_writer.specs.Framing.One.{framing-one}
 use Rattle.carrying.specs.Carry.{Carries}
 use Rattle.carrying.specs.Carry.One.{carry-one}
+use Rattle.captures.specs.Kept.{Restores}
+use Rattle.captures.specs.Kept.One.{restored-one as captures-one}
 use Rattle.section_reader.specs.ReadSay.{ReadOut, readOut}
 use Rattle.told.specs.Told.{Told}
 use Rattle.told.specs.Told.One.{told-one}
@@ -28,7 +30,7 @@ module _ {x y : ℕ} {v w : List ℕ} where
   pub said-one : (n : ℕ) (o : Say) → Told n (λ say. say ≡ o) x v → Told n (λ say. say ≡ o) y w → (x ≡ y) × (v ≡ w)
   said-one n o p q = let same = told-one {Same = n ≡ n} (λ a b e f. (e ∙ sym f, refl)) p q in (same .0, same .1)
 
-  -- scrambling, cutting, joining, aligning, finding
+  -- scrambling, cutting, joining, aligning, finding; keeping and replaying a capture
   pub left-one : (n : ℕ) (o : Outcome) (s t : List ℕ) → Told n (λ say. outcome say s ≡ o) x v → Told n (λ say. outcome say t ≡ o) y w → (x ≡ y) × (v ≡ w) × (s ≡ t)
   left-one n o s t = told-one (λ a b e f. (ap (λ (z : Outcome). z .say) (e ∙ sym f), ap (λ (z : Outcome). z .out) (e ∙ sym f)))
 
@@ -47,6 +49,11 @@ module _ {x y : ℕ} {v w : List ℕ} where
       → Told 2 (λ say. Salvages received passes old changed say t m) y w → (x ≡ y) × (v ≡ w) × ((s ≡ t) × (l ≡ m))
   salvaged-one received passes old changed s t l m =
       told-one (λ a b p q. let e = salvages-one received passes old changed p q in (e .says, (e .sector, e .list)))
+
+  -- restoring a capture, with its used length
+  pub restored-one : (l old s t : List ℕ) → Told 1 (λ say. Restores l old say s) x v → Told 1 (λ say. Restores l old say t) y w
+      → (x ≡ y) × (v ≡ w) × (s ≡ t)
+  restored-one l old s t = told-one (λ a b p q. captures-one l old p q)
 
   -- writing a Section, with the state after it
   pub step-one : {S : Type 0} (o : Step S) (m n : S) (s t : List ℕ) → Told 0 (λ say. step say m s ≡ o) x v → Told 0 (λ say. step say n t ≡ o) y w

@@ -5,6 +5,7 @@ mod circ_running;
 mod codewords;
 mod controls;
 mod data_frames;
+mod edge_captures;
 mod elements;
 mod frames;
 mod judging;

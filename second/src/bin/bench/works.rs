@@ -2,6 +2,7 @@
 
 use crate::{Crc, Work};
 use second::alignment::{FRAME, MOST_FRAMES, MOST_SECTORS, ROOM};
+use second::captures::{CAPTURE, LIST as RUN_LIST};
 use second::channel::*;
 use second::proved;
 use second::random::Random;
@@ -25,6 +26,7 @@ pub fn works() -> Vec<Work> {
     works.extend(alignment());
     works.extend(circ(&sector));
     works.extend(sections());
+    works.extend(captures());
     works
 }
 
@@ -212,5 +214,37 @@ fn sections() -> Vec<Work> {
         Work::new("write a Section", Some(40.0), write),
         Work::new("read a Section", Some(10.0), read),
         Work::new("judge a Section", Some(6.0), judge),
+    ]
+}
+
+/// The longest capture, of a Sync Header and legal runs behind it: kept, restored and replayed.
+fn captures() -> Vec<Work> {
+    let mut random = Random::new(5);
+    let mut count = 0u16;
+    let mut capture = Vec::new();
+    for edge in 0..CAPTURE / 2 {
+        capture.extend(count.to_be_bytes());
+        let ticks = if edge < 2 { 88 } else { 20 + random.below(64) as u16 };
+        count = count.wrapping_add(ticks);
+    }
+    let mut list = vec![0; RUN_LIST];
+    let used = proved::runs_of(&capture, &mut list).values[0] as usize;
+    let kept = list[..used].to_vec();
+    let given = capture.clone();
+    let keep = move || {
+        assert_eq!(proved::runs_of(black_box(&given), black_box(&mut list)).number, 0);
+    };
+    let mut restored = vec![0; CAPTURE];
+    let restore = move || {
+        assert_eq!(proved::capture_of(black_box(&kept), black_box(&mut restored)).number, 0);
+    };
+    let mut frames = vec![0; CAPTURE];
+    let replay = move || {
+        assert_eq!(proved::replay(black_box(&capture), black_box(&mut frames)).number, 0);
+    };
+    vec![
+        Work::new("keep a capture of 64 KiB as its list of runs", None, keep),
+        Work::new("restore it", None, restore),
+        Work::new("replay a capture of 64 KiB", None, replay),
     ]
 }

@@ -1,0 +1,1 @@
+// Edge captures (document 02, §5): definitions and laws only.

@@ -1,0 +1,2 @@
+-- what a count of a capture is
+pub mod Found

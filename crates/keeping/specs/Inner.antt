@@ -1,0 +1,4 @@
+-- Contracts of private functions.
+-- Assumes nothing.
+pub mod Put
+pub mod Wrote

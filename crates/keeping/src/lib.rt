@@ -1,0 +1,70 @@
+// A capture kept as a list of run lengths (document 02, §5).
+ghost use mathlib.Core.Path.{_≡_};
+ghost use Prim.Native.Nat.{_+_, _≤_};
+ghost use lib.ListN.{length};
+ghost use Rattle.outcome.specs.Say.{outcome};
+ghost use Rattle.captures.specs.Kept.{keeping};
+ghost use Rattle.keeping.specs.Answers.{sayOf};
+ghost use Rattle.keeping.specs.Inner.Put.{Puts};
+ghost use Rattle.keeping.specs.Inner.Wrote.{Ready, Wrote};
+
+// What keeping a capture answers: the used length of the list, or a refusal.
+pub enum Listed {
+    Done(usize),
+    WrongIncoming,
+    WrongOutgoing,
+}
+
+// The number n in its shortest form, from place `used` on; the answer is the place behind it.
+fn put_number(list: &mut [u8], used: usize, n: u16) -> usize
+    requires { ⌜ used + 3 ≤ length (now list) ⌝ }
+    ensures { λ r. ⌜ Puts used n (now (list .entry)) r (now (list .exit)) ⌝ }
+{
+    if n < 128 {
+        list[used] = n as u8;
+        return used + 1;
+    }
+    list[used] = (128 + n % 128) as u8;
+    if n < 16384 {
+        list[used + 1] = (n / 128) as u8;
+        return used + 2;
+    }
+    list[used + 1] = (128 + n / 128 % 128) as u8;
+    list[used + 2] = (n / 16384) as u8;
+    used + 3
+}
+
+// The runs of a right capture, put into a list of zeros; the answer is the used length. The first count is its own distance from 0.
+fn put_runs(capture: &[u8], list: &mut [u8]) -> usize
+    requires { ⌜ Ready (now capture) (now list) ⌝ }
+    ensures { λ r. ⌜ Wrote (now (capture .entry)) r (now (list .exit)) ⌝ }
+{
+    let mut last: u16 = 0;
+    let mut used: usize = 0;
+    let mut i: usize = 0;
+    while i < capture.len() / 2 {
+        let count = counts::count_at(capture, i);
+        let run = counts::ticks(last, count);
+        used = put_number(list, used, run);
+        last = count;
+        i += 1;
+    }
+    used
+}
+
+// `list` becomes the list of the capture's runs: the first count, and then each distance, in groups of seven bits.
+pub fn runs_of(capture: &[u8], list: &mut [u8]) -> Listed
+    ensures { λ r. ⌜ outcome (sayOf r) (now (list .exit)) ≡ keeping (now (capture .entry)) (now (list .entry)) ⌝ }
+{
+    outcome::wipe(list, 98304);
+    if capture.len() % 2 != 0 {
+        return Listed::WrongIncoming;
+    }
+    if capture.len() > 65536 {
+        return Listed::WrongIncoming;
+    }
+    if list.len() != 98304 {
+        return Listed::WrongOutgoing;
+    }
+    Listed::Done(put_runs(capture, list))
+}

@@ -1,0 +1,5 @@
+-- Contracts of private functions.
+-- Assumes nothing.
+pub mod Runs
+pub mod Begins
+pub mod Frames

@@ -1,0 +1,1 @@
+// What replaying a capture means (document 02, §5): definitions and laws only.

@@ -1,0 +1,5 @@
+-- Contracts of private functions.
+-- Assumes nothing.
+pub mod Leads
+pub mod Count
+pub mod Read

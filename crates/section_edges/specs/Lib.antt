@@ -1,0 +1,2 @@
+-- document 02, §5: Sections turned into edges, which replaying gives back
+pub mod Edges
