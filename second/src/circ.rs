@@ -1,5 +1,7 @@
 //! ECMA-130, clause 17 and Annex C; document 01, CIRC; document 02, 7: the writer and the reader, over whole histories.
 
+pub mod rings;
+
 use crate::codeword::{agreeing, fill, nearest};
 use crate::refusal::{clear, Refusal, Refusal::*};
 

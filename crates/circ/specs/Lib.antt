@@ -9,3 +9,5 @@ pub mod Marked
 -- a step, with document 01's refusals
 pub mod Step
 pub mod Steps
+-- document 02, §9
+pub mod Rings

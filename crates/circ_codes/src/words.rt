@@ -10,7 +10,7 @@ use codeword::Verdict;
 fn mend(word: &mut [u8]) -> u8
     ensures { λ r. ⌜ (r ≡ lost (now (word .entry))) × (now (word .exit) ≡ corrected (now (word .entry))) ⌝ }
 {
-    let verdict = codeword::verdict_of_four(word);
+    let verdict = generator::verdict_of_four(word);
     match verdict {
         Verdict::Clean => 0,
         Verdict::Change(i, b) => {

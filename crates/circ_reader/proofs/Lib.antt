@@ -1,2 +1,3 @@
 mod Marks
-mod Beside
+mod Shared
+mod Turning

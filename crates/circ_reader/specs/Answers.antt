@@ -12,3 +12,4 @@ sayOf read.Sure = done (0 ∷ [])
 sayOf read.InDoubt = done (1 ∷ [])
 sayOf read.WrongIncoming = refused 1 []
 sayOf read.WrongOutgoing = refused 2 []
+sayOf read.WrongPlace = refused 6 []

@@ -1,31 +1,33 @@
 // The CIRC reader (clause 17, Annex C; document 02, §7): F2-frames of 32 bytes, each with its mark, become F1-frames of 24 again. Its state is the bytes and
-// marks that wait, all in one flat store.
+// marks that wait, in rings in one flat store (document 02, §9), and a place for each row that waits: a mark is at its byte's place.
 ghost use mathlib.Core.Path.{_≡_};
 ghost use mathlib.Core.List.{[], _∷_, _++_};
-ghost use Prim.Native.Nat.{_+_, _≤_};
+ghost use Prim.Native.Nat.{_≤_};
 ghost use lib.ListN.{length};
-ghost use Rattle.outcome.specs.Say.{done, refused, cleared};
+ghost use Rattle.outcome.specs.Say.{done, cleared};
+ghost use Rattle.lines.specs.Delay.{zeros};
 ghost use Rattle.circ.specs.Rows.{collected, doubt};
-ghost use Rattle.lines.specs.Delay.{rowsOut};
-ghost use Rattle.lines.specs.Part.{part, staged};
-ghost use Rattle.circ.specs.Marked.{twice, freshReader};
+ghost use Rattle.circ.specs.Marked.{entering, freshReader};
+ghost use Rattle.circ.specs.Rings.{readerRings, readsInPlace};
 ghost use Rattle.circ_reader.specs.Answers.{sayOf};
 ghost use Rattle.calls.specs.Step.{step};
-ghost use Rattle.circ.specs.Steps.{reads};
-ghost use Rattle.circ_reader.specs.Inner.Reading.{WithMarks, ReaderGone};
+ghost use Rattle.circ_reader.specs.Inner.Reading.{ReaderAsks, ReaderGone};
 
+mod ring_lengths;
 mod waits;
 
 use circ_codes::enter;
 use circ_codes::pass_c1;
 use circ_codes::pass_c2;
+use ring_lengths::RING_LENGTHS;
 use waits::AFTER_C2;
 use waits::BEFORE_C1;
 use waits::BETWEEN;
 
-// 16 bytes wait before C1 and 1,512 between C1 and C2, each with its mark, and 24 bytes and two doubts after C2. Any mark but 0 marks.
+// 16 bytes in as many rows wait before C1 and 1,512 in 27 between C1 and C2, each with its mark, and 24 bytes and two doubts in 13 after C2. Any mark but 0 marks.
 pub struct CircReader {
-    pub line: [u8; 3082],
+    pub store: [u8; 3082],
+    pub places: [u8; 56],
 }
 
 // The 24 bytes are sure, or in doubt because for a C2 word that they came from no codeword was found.
@@ -34,6 +36,7 @@ pub enum ReaderAnswer {
     InDoubt,
     WrongIncoming,
     WrongOutgoing,
+    WrongPlace,
 }
 
 pub struct ReaderStep {
@@ -76,7 +79,7 @@ fn collect(rows: &[u8]) -> [u8; 24]
 
 // Whether either of the two marks is set.
 fn answer_by(rows: &[u8]) -> ReaderAnswer
-    requires { ⌜ length (now rows) ≡ 30 ⌝ }
+    requires { ⌜ 30 ≤ length (now rows) ⌝ }
     ensures { λ r. ⌜ sayOf r ≡ done (doubt (now (rows .entry)) ∷ []) ⌝ }
 {
     if rows[28] != 0 {
@@ -88,46 +91,56 @@ fn answer_by(rows: &[u8]) -> ReaderAnswer
     ReaderAnswer::Sure
 }
 
-// The rows of a word through their lines, and behind them its marks through lines of the same lengths, which stand behind those in the store.
-fn stage_with_marks(lens: &[u8], store: &mut [u8], from: usize, half: usize, word: &mut [u8])
-    requires { ⌜ WithMarks (now lens) (now store) from half (now word) ⌝ }
-    ensures { λ _. ⌜ (now (word .exit) ≡ rowsOut (twice (now (lens .entry))) (part from (half + half) (now (store .entry))) (now (word .entry)))
-        × (now (store .exit) ≡ staged (twice (now (lens .entry))) from (half + half) (now (store .entry)) (now (word .entry))) ⌝ }
+// The word that goes into C1's delays: a frame, and behind it its marks.
+fn take_in(frame: &[u8], marks: &[u8]) -> [u8; 64]
+    requires { ⌜ (length (now frame) ≡ 32) × (length (now marks) ≡ 32) ⌝ }
+    ensures { λ r. ⌜ r ≡ entering (now (frame .entry) ++ now (marks .entry)) ⌝ }
 {
-    let rows = lens.len();
-    lines::stage(lens, store, from, half, &mut word[..rows]);
-    lines::stage_of_marks(lens, store, from + half, half, &mut word[rows..]);
+    let mut f2 = [0u8; 32];
+    outcome::copy(frame, &mut f2);
+    let mut lost = [0u8; 32];
+    outcome::copy(marks, &mut lost);
+    enter(f2, lost)
+}
+
+// The F1-frame in the rows goes out, and is sure or in doubt.
+fn hand_out(rows: &[u8], out: &mut [u8]) -> ReaderAnswer
+    requires { ⌜ (30 ≤ length (now rows)) × (length (now out) ≡ 24) ⌝ }
+    ensures { λ r. ⌜ (sayOf r ≡ done (doubt (now (rows .entry)) ∷ [])) × (now (out .exit) ≡ collected (now (rows .entry))) ⌝ }
+{
+    let f1 = collect(rows);
+    outcome::copy(&f1, out);
+    answer_by(rows)
 }
 
 impl CircReader {
     // As if the F2-frames of endless zero F1-frames had gone before.
     pub fn new() -> Self
-        ensures { λ r. ⌜ r .line ≡ freshReader ⌝ }
+        ensures { λ r. ⌜ (r .store ≡ freshReader) × (r .places ≡ zeros 56) ⌝ }
     {
-        CircReader { line: [0u8; 3082] }
+        CircReader {
+            store: [0u8; 3082],
+            places: [0u8; 56],
+        }
     }
 
-    // The step where all lengths are right.
+    // The step where all lengths and all places are right.
     fn go(self, frame: &[u8], marks: &[u8], out: &mut [u8]) -> ReaderStep
-        requires { ⌜ (length (now frame) ≡ 32) × (length (now marks) ≡ 32) × (length (now out) ≡ 24) ⌝ }
-        ensures { λ r. ⌜ ReaderGone (self .line) (now (frame .entry) ++ now (marks .entry)) (r .next .line) (sayOf (r .answer)) (now (out .exit)) ⌝ }
+        requires { ⌜ ReaderAsks (self .places) (now frame) (now marks) (now out) ⌝ }
+        ensures { λ r. ⌜ ReaderGone (self .places) (self .store) (now (frame .entry) ++ now (marks .entry)) (r .next .places) (r .next .store) (sayOf (r .answer)) (now (out .exit)) ⌝ }
     {
-        let mut line = self.line;
-        let mut f2 = [0u8; 32];
-        outcome::copy(frame, &mut f2);
-        let mut lost = [0u8; 32];
-        outcome::copy(marks, &mut lost);
-        let mut c1 = enter(f2, lost);
-        stage_with_marks(&BEFORE_C1, &mut line, 0, 16, &mut c1);
+        let mut store = self.store;
+        let mut places = self.places;
+        let mut c1 = take_in(frame, marks);
+        rings::turn_with_marks(&BEFORE_C1, &places, 0, &mut store, 0, 16, &mut c1);
         let mut c2 = pass_c1(c1);
-        stage_with_marks(&BETWEEN, &mut line, 32, 1512, &mut c2);
+        rings::turn_with_marks(&BETWEEN, &places, 16, &mut store, 32, 1544, &mut c2);
         let mut rows = pass_c2(c2);
-        lines::stage(&AFTER_C2, &mut line, 3056, 26, &mut rows);
-        let f1 = collect(&rows);
-        outcome::copy(&f1, out);
-        let answer = answer_by(&rows);
+        rings::turn(&AFTER_C2, &places, 43, &mut store, 3056, &mut rows);
+        rings::onward(&RING_LENGTHS, &mut places);
+        let answer = hand_out(&rows, out);
         ReaderStep {
-            next: CircReader { line },
+            next: CircReader { store, places },
             answer,
         }
     }
@@ -139,26 +152,31 @@ impl CircReader {
         ReaderStep { next: self, answer }
     }
 
-    // A wrong length came in: besides, the buffer is cleared.
-    fn refuse_incoming(self, out: &mut [u8]) -> ReaderStep
-        ensures { λ r. ⌜ step (sayOf (r .answer)) (r .next .line) (now (out .exit)) ≡ step (refused 1 []) (self .line) (cleared 24 (now (out .entry))) ⌝ }
+    // Besides, the buffer is cleared.
+    fn refuse_and_wipe(self, answer: ReaderAnswer, out: &mut [u8]) -> ReaderStep
+        ensures { λ r. ⌜ step (sayOf (r .answer)) (readerRings (r .next .places) (r .next .store)) (now (out .exit))
+            ≡ step (sayOf answer) (readerRings (self .places) (self .store)) (cleared 24 (now (out .entry))) ⌝ }
     {
         outcome::wipe(out, 24);
-        self.refuse(ReaderAnswer::WrongIncoming)
+        self.refuse(answer)
     }
 
     // An F2-frame of 32 bytes and as many marks in, an F1-frame of 24 out, sure or in doubt.
     pub fn step(self, frame: &[u8], marks: &[u8], out: &mut [u8]) -> ReaderStep
-        ensures { λ r. ⌜ step (sayOf (r .answer)) (r .next .line) (now (out .exit)) ≡ reads (self .line) (now (frame .entry)) (now (marks .entry)) (now (out .entry)) ⌝ }
+        ensures { λ r. ⌜ step (sayOf (r .answer)) (readerRings (r .next .places) (r .next .store)) (now (out .exit))
+            ≡ readsInPlace (readerRings (self .places) (self .store)) (now (frame .entry)) (now (marks .entry)) (now (out .entry)) ⌝ }
     {
         if frame.len() != 32 {
-            return self.refuse_incoming(out);
+            return self.refuse_and_wipe(ReaderAnswer::WrongIncoming, out);
         }
         if marks.len() != 32 {
-            return self.refuse_incoming(out);
+            return self.refuse_and_wipe(ReaderAnswer::WrongIncoming, out);
         }
         if out.len() != 24 {
             return self.refuse(ReaderAnswer::WrongOutgoing);
+        }
+        if !rings::below(&RING_LENGTHS, &self.places) {
+            return self.refuse_and_wipe(ReaderAnswer::WrongPlace, out);
         }
         self.go(frame, marks, out)
     }

@@ -9,6 +9,7 @@ use borrow.Rule.Slice.PartMut.{putMid}
 use Rattle.outcome.specs.Buffer.Part.{part-back}
 use Rattle.calls.specs.Step.{Step}
 use Rattle.calls.specs.Calls.{run}
+use Rattle.circ.specs.Rings.{Rings}
 use Rattle.circ_runs.specs.Runs.{Call, call, lent, Left, left, unlent, twoBytes, before, inFront, runs}
 use Rattle.circ_runs.specs.Inner.Coding.{Leaves}
 use Rattle.circ_runs.proofs.Lent.{lent-part, lent-rest, lent-from, lent-in, drop-two, take-replaced, drop-replaced, length-replaced}
@@ -17,8 +18,8 @@ use Rattle.circ_runs.proofs.Lent.{lent-part, lent-rest, lent-from, lent
 before-before : (a b c d : List ℕ) (r : Left) → before a b (before c d r) ≡ before (a ++ c) (b ++ d) r
 before-before a b c d r = ap₂ left (sym (append-assoc a c (r .answers))) (sym (append-assoc b d (r .out)))
 
-module _ (does : List ℕ → Call → Step (List ℕ)) where
-  pub record Running (state₀ incoming lengths out₀ state : List ℕ) (k from to : ℕ) (answers out : List ℕ) : Type 0 where
+module _ (does : Rings → Call → Step Rings) where
+  pub record Running (state₀ : Rings) (incoming lengths out₀ : List ℕ) (state : Rings) (k from to : ℕ) (answers out : List ℕ) : Type 0 where
     pub all : runs does state₀ lengths incoming out₀ ≡ before (take k answers) (take to out) (runs does state (drop k answers) (drop from incoming) (drop to out))
     pub as-many : length answers ≡ length lengths
     pub as-long : length out ≡ length out₀
@@ -26,18 +27,18 @@ module _ (does : List ℕ → Call → Step (List ℕ)) where
     pub from-in : from ≤ length incoming
     pub to-in : to ≤ length out
 
-  pub running-none : (state₀ incoming lengths out state : List ℕ) → state ≡ state₀ → Running state₀ incoming lengths out state 0 0 0 lengths out
+  pub running-none : (state₀ : Rings) (incoming lengths out : List ℕ) (state : Rings) → state ≡ state₀ → Running state₀ incoming lengths out state 0 0 0 lengths out
   running-none state₀ incoming lengths out state e =
-      record { all = ap (λ (s : List ℕ). runs does s lengths incoming out) (sym e); as-many = refl; as-long = refl; k-in = omega arith; from-in = omega arith; to-in = omega arith }
+      record { all = ap (λ (s : Rings). runs does s lengths incoming out) (sym e); as-many = refl; as-long = refl; k-in = omega arith; from-in = omega arith; to-in = omega arith }
 
   -- where a single length is left, or none, the run is over
-  over : (state lengths incoming out : List ℕ) → length lengths < 2 → runs does state lengths incoming out ≡ left lengths out
+  over : (state : Rings) (lengths incoming out : List ℕ) → length lengths < 2 → runs does state lengths incoming out ≡ left lengths out
   unfolding run lent unlent inFront
   over state [] incoming out h = refl
   over state (i ∷ []) incoming out h = refl
   over state (i ∷ o ∷ lengths) incoming out h = absurd (omega arith)
 
-  pub running-all : {state₀ incoming lengths out₀ state : List ℕ} {k from to : ℕ} {answers out : List ℕ} → Running state₀ incoming lengths out₀ state k from to answers out
+  pub running-all : {state₀ : Rings} {incoming lengths out₀ : List ℕ} {state : Rings} {k from to : ℕ} {answers out : List ℕ} → Running state₀ incoming lengths out₀ state k from to answers out
       → length answers - k < 2 → left answers out ≡ runs does state₀ lengths incoming out₀
   running-all {incoming = incoming} {state = state} {k} {from} {to} {answers} {out} f h =
       sym
@@ -46,18 +47,18 @@ module _ (does : List ℕ → Call → Step (List ℕ)) where
       ∙ ap₂ left (take-append-drop k answers) (take-append-drop to out))
 
   -- a call that is lent a and b, and the run behind it over what is left
-  abbrev called : List ℕ → List ℕ → List ℕ → List ℕ → List ℕ → List ℕ → Left
+  abbrev called : Rings → List ℕ → List ℕ → List ℕ → List ℕ → List ℕ → Left
   called state lengths a b incoming out =
       before (twoBytes (does state (call a b) .say)) (does state (call a b) .out) (runs does (does state (call a b) .next) lengths incoming out)
 
-  runs-first : (state lengths incoming out : List ℕ) (i o : ℕ)
+  runs-first : (state : Rings) (lengths incoming out : List ℕ) (i o : ℕ)
       → runs does state (i ∷ o ∷ lengths) incoming out ≡ called state lengths (take i incoming) (take o out) (drop i incoming) (drop o out)
   unfolding run lent unlent inFront
   runs-first state lengths incoming out i o = refl
 
   -- one call more, with what it was lent and what it leaves
-  pub running-more : {state₀ incoming lengths out₀ state : List ℕ} {k from to : ℕ} {answers out : List ℕ} → Running state₀ incoming lengths out₀ state k from to answers out
-      → (from-end to-end : ℕ) (next pair part : List ℕ) → 2 ≤ length answers - k
+  pub running-more : {state₀ : Rings} {incoming lengths out₀ : List ℕ} {state : Rings} {k from to : ℕ} {answers out : List ℕ} → Running state₀ incoming lengths out₀ state k from to answers out
+      → (from-end to-end : ℕ) (next : Rings) (pair part : List ℕ) → 2 ≤ length answers - k
       → from-end ≡ from + min (getD answers k 0) (length incoming - from)
       → to-end ≡ to + min (getD answers (k + 1) 0) (length out - to)
       → Leaves does state (call (take (from-end - from) (drop from incoming)) (take (to-end - to) (drop to out))) next pair part
@@ -107,7 +108,7 @@ module _ (does : List ℕ → Call → Step (List ℕ)) where
       rest : List ℕ
       rest = drop (k + 2) answers
 
-      made : Step (List ℕ)
+      made : Step Rings
       made = does state (call (take (from-end - from) (drop from incoming)) (take (to-end - to) (drop to out)))
 
       turn : runs does state (drop k answers) (drop from incoming) (drop to out)
@@ -123,4 +124,4 @@ module _ (does : List ℕ → Call → Step (List ℕ)) where
           (lent-rest (getD answers (k + 1) 0) to to-end out (f .to-in) et)
           ∙ ap₂ (λ (a b : List ℕ). before a b (runs does (made .next) rest (drop from-end incoming) (drop to-end out)))
           (sym (g .has-answer)) (sym (g .has-out))
-          ∙ ap (λ (s : List ℕ). before pair part (runs does s rest (drop from-end incoming) (drop to-end out))) (sym (g .has-next))
+          ∙ ap (λ (s : Rings). before pair part (runs does s rest (drop from-end incoming) (drop to-end out))) (sym (g .has-next))

@@ -9,7 +9,8 @@ ghost use Rattle.circ_reader.specs.Answers as readers;
 ghost use Rattle.circ_writer.specs.Answers as writers;
 ghost use Rattle.told.specs.Told.{numberOf, valuesOf};
 ghost use Rattle.circ_runs.specs.Runs.{call, left, runs};
-ghost use Rattle.circ_runs.specs.Coders.{writing, reading};
+ghost use Rattle.circ.specs.Rings.{writerRings, freshWriterRings, readerRings, freshReaderRings};
+ghost use Rattle.circ_runs.specs.Coders.{writing, reading, writingInPlace, readingInPlace};
 ghost use Rattle.circ_runs.specs.Inner.Coding.{coding, oneOf, Leaves};
 use crate::lending::end_of;
 use crate::lending::put;
@@ -25,6 +26,7 @@ fn written(a: WriterAnswer) -> u8
         WriterAnswer::Written => 0,
         WriterAnswer::WrongIncoming => 1,
         WriterAnswer::WrongOutgoing => 2,
+        WriterAnswer::WrongPlace => 6,
     }
 }
 
@@ -36,6 +38,7 @@ fn was_read(a: ReaderAnswer) -> u8
         ReaderAnswer::InDoubt => 0,
         ReaderAnswer::WrongIncoming => 1,
         ReaderAnswer::WrongOutgoing => 2,
+        ReaderAnswer::WrongPlace => 6,
     }
 }
 
@@ -48,13 +51,14 @@ fn doubt(a: ReaderAnswer) -> u8
         ReaderAnswer::InDoubt => 1,
         ReaderAnswer::WrongIncoming => 0,
         ReaderAnswer::WrongOutgoing => 0,
+        ReaderAnswer::WrongPlace => 0,
     }
 }
 
 // One call of the writer, whose answer goes into two bytes.
 fn write_frame(writer: CircWriter, frame: &[u8], pair: &mut [u8], out: &mut [u8]) -> CircWriter
     requires { ⌜ length (now pair) ≡ 2 ⌝ }
-    ensures { λ r. ⌜ Leaves writing (writer .line) (call (now (frame .entry)) (now (out .entry))) (r .line) (now (pair .exit)) (now (out .exit)) ⌝ }
+    ensures { λ r. ⌜ Leaves writingInPlace (writerRings (writer .places) (writer .store)) (call (now (frame .entry)) (now (out .entry))) (writerRings (r .places) (r .store)) (now (pair .exit)) (now (out .exit)) ⌝ }
 {
     let step = writer.step(frame, out);
     let answer = step.answer;
@@ -65,7 +69,7 @@ fn write_frame(writer: CircWriter, frame: &[u8], pair: &mut [u8], out: &mut [u8]
 // The same of the reader: the frame is the first 32 bytes, and behind it are its marks.
 fn read_frame(reader: CircReader, incoming: &[u8], pair: &mut [u8], out: &mut [u8]) -> CircReader
     requires { ⌜ length (now pair) ≡ 2 ⌝ }
-    ensures { λ r. ⌜ Leaves reading (reader .line) (call (now (incoming .entry)) (now (out .entry))) (r .line) (now (pair .exit)) (now (out .exit)) ⌝ }
+    ensures { λ r. ⌜ Leaves readingInPlace (readerRings (reader .places) (reader .store)) (call (now (incoming .entry)) (now (out .entry))) (readerRings (r .places) (r .store)) (now (pair .exit)) (now (out .exit)) ⌝ }
 {
     let end = end_of(0, 32, incoming.len());
     let step = reader.step(&incoming[..end], &incoming[end..], out);
@@ -77,7 +81,7 @@ fn read_frame(reader: CircReader, incoming: &[u8], pair: &mut [u8], out: &mut [u
 // A run of one of the two, from a fresh state on.
 fn run(reads: bool, frames: &[u8], steps: &mut [u8], out: &mut [u8])
     ensures { λ _. ⌜ left (now (steps .exit)) (now (out .exit))
-        ≡ runs (coding reads) (oneOf reads freshReader freshWriter) (now (steps .entry)) (now (frames .entry)) (now (out .entry)) ⌝ }
+        ≡ runs (coding reads) (oneOf reads freshReaderRings freshWriterRings) (now (steps .entry)) (now (frames .entry)) (now (out .entry)) ⌝ }
 {
     let mut writer = CircWriter::new();
     let mut reader = CircReader::new();
@@ -102,14 +106,14 @@ fn run(reads: bool, frames: &[u8], steps: &mut [u8], out: &mut [u8])
     }
 }
 
-// A run from a fresh writer on.
+// A run from a fresh writer on: it leaves what it would if the bytes that wait shifted along.
 pub fn write(frames: &[u8], steps: &mut [u8], out: &mut [u8])
     ensures { λ _. ⌜ left (now (steps .exit)) (now (out .exit)) ≡ runs writing freshWriter (now (steps .entry)) (now (frames .entry)) (now (out .entry)) ⌝ }
 {
     run(false, frames, steps, out)
 }
 
-// A run from a fresh reader on.
+// The same from a fresh reader on.
 pub fn read(frames: &[u8], steps: &mut [u8], out: &mut [u8])
     ensures { λ _. ⌜ left (now (steps .exit)) (now (out .exit)) ≡ runs reading freshReader (now (steps .entry)) (now (frames .entry)) (now (out .entry)) ⌝ }
 {

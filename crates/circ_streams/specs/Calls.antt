@@ -10,6 +10,8 @@ use Rattle.calls.specs.Calls.{run, doneOf}
 use Rattle.circ.specs.Steps.{fitsWriter, writes, fitsReader, reads}
 use Rattle.circ.specs.Chains.{freshWriter}
 use Rattle.circ.specs.Marked.{freshReader}
+use Rattle.circ.specs.Rings.{Rings, writesInPlace, readsInPlace}
+pub mod Alike
 pub mod Done
 pub mod Streams
 pub mod ThereAndBack
@@ -27,12 +29,19 @@ pub record MarkedFrame : Type 0 where
 abbrev pub marked : List ℕ → List ℕ → MarkedFrame
 marked frame marks = record { frame = frame; marks = marks }
 
--- what a call does in a state
+-- what a call does in a state, where the bytes that wait shift along
 abbrev pub writerDoes : List ℕ → Call (List ℕ) → Step (List ℕ)
 writerDoes s c = writes s (c .incoming) (c .out)
 
 abbrev pub readerDoes : List ℕ → Call MarkedFrame → Step (List ℕ)
 readerDoes s c = reads s (c .incoming .frame) (c .incoming .marks) (c .out)
+
+-- and where they stay (document 02, §9): the same over any list of calls (`writer-alike`, `reader-alike`)
+abbrev pub writerInPlace : Rings → Call (List ℕ) → Step Rings
+writerInPlace s c = writesInPlace s (c .incoming) (c .out)
+
+abbrev pub readerInPlace : Rings → Call MarkedFrame → Step Rings
+readerInPlace s c = readsInPlace s (c .incoming .frame) (c .incoming .marks) (c .out)
 
 -- the calls that are done, of a list of them from `new()` on
 abbrev pub writerDone : List (Call (List ℕ)) → List (Step (List ℕ))

@@ -1,1 +1,2 @@
 mod Parities
+mod Turning

@@ -1,4 +1,4 @@
--- The bytes that `codeword` gives as parity are the Q bytes and the P bytes, since there is only one choice.
+-- The bytes that `generator` gives as parity are the Q bytes and the P bytes, since there is only one choice.
 -- Assumes nothing.
 use mathlib.Core.Path.{_≡_, refl, ap, ap₂, _∙_}
 use mathlib.Core.List.{List, [], _∷_, _++_, append-nil, append-assoc}

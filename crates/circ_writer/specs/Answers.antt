@@ -11,3 +11,4 @@ abbrev pub sayOf : writing.WriterAnswer → Say
 sayOf written.Written = done []
 sayOf written.WrongIncoming = refused 1 []
 sayOf written.WrongOutgoing = refused 2 []
+sayOf written.WrongPlace = refused 6 []

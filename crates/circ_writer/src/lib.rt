@@ -1,28 +1,35 @@
-// The CIRC writer (clause 17, Annex C): F1-frames of 24 bytes become F2-frames of 32. Its state is the bytes that wait, all in one flat store.
+// The CIRC writer (clause 17, Annex C): F1-frames of 24 bytes become F2-frames of 32. Its state is the bytes that wait, in
+// rings in one flat store (document 02, §9), and a place for each row that waits.
 ghost use mathlib.Core.Path.{_≡_};
 ghost use lib.ListN.{length};
 ghost use Rattle.circ.specs.Rows.{placed};
-ghost use Rattle.circ.specs.Chains.{freshWriter, withQ, withP, writerOut, writerNext};
+ghost use Rattle.circ.specs.Chains.{freshWriter, withQ, withP};
 ghost use Rattle.circ.specs.Codes.{qOf, pOf};
 ghost use Rattle.circ_writer.specs.Answers.{sayOf};
+ghost use Rattle.circ_writer.specs.Inner.Writing.{WriterAsks, WriterGone};
+ghost use Rattle.lines.specs.Delay.{zeros};
 ghost use Rattle.calls.specs.Step.{step};
-ghost use Rattle.circ.specs.Steps.{writes};
+ghost use Rattle.circ.specs.Rings.{writerRings, writesInPlace};
 
+mod ring_lengths;
 mod waits;
 
+use ring_lengths::RING_LENGTHS;
 use waits::AFTER_C1;
 use waits::BEFORE_C2;
 use waits::BETWEEN;
 
-// 24 bytes wait before C2, 1,512 between C2 and C1, and 16 after C1.
+// 24 bytes in 12 rows wait before C2, 1,512 in 27 between C2 and C1, and 16 in as many after C1.
 pub struct CircWriter {
-    pub line: [u8; 1552],
+    pub store: [u8; 1552],
+    pub places: [u8; 55],
 }
 
 pub enum WriterAnswer {
     Written,
     WrongIncoming,
     WrongOutgoing,
+    WrongPlace,
 }
 
 pub struct WriterStep {
@@ -71,7 +78,7 @@ fn place(frame: &[u8]) -> [u8; 28]
 fn fill_q(rows: [u8; 28]) -> [u8; 28]
     ensures { λ r. ⌜ r ≡ withQ qOf rows ⌝ }
 {
-    let q = codeword::parity_at_12(rows);
+    let q = generator::parity_at_12(rows);
     let mut word = rows;
     word[12] = q[0];
     word[13] = q[1];
@@ -84,7 +91,7 @@ fn fill_q(rows: [u8; 28]) -> [u8; 28]
 fn fill_p(rows: [u8; 28]) -> [u8; 32]
     ensures { λ r. ⌜ r ≡ withP pOf rows ⌝ }
 {
-    let p = codeword::parity_at_end(&rows);
+    let p = generator::parity_at_end(&rows);
     let mut word = [0u8; 32];
     outcome::copy(&p, &mut word[28..]);
     outcome::copy(&rows, &mut word[..28]);
@@ -94,26 +101,31 @@ fn fill_p(rows: [u8; 28]) -> [u8; 32]
 impl CircWriter {
     // As if endless zero F1-frames had gone before.
     pub fn new() -> Self
-        ensures { λ r. ⌜ r .line ≡ freshWriter ⌝ }
+        ensures { λ r. ⌜ (r .store ≡ freshWriter) × (r .places ≡ zeros 55) ⌝ }
     {
-        CircWriter { line: [0u8; 1552] }
+        CircWriter {
+            store: [0u8; 1552],
+            places: [0u8; 55],
+        }
     }
 
-    // The step where both lengths are right.
+    // The step where both lengths and all places are right.
     fn go(self, frame: &[u8], out: &mut [u8]) -> CircWriter
-        requires { ⌜ (length (now frame) ≡ 24) × (length (now out) ≡ 32) ⌝ }
-        ensures { λ r. ⌜ (r .line ≡ writerNext qOf pOf (self .line) (now (frame .entry))) × (now (out .exit) ≡ writerOut qOf pOf (self .line) (now (frame .entry))) ⌝ }
+        requires { ⌜ WriterAsks (self .places) (now frame) (now out) ⌝ }
+        ensures { λ r. ⌜ WriterGone (self .places) (self .store) (now (frame .entry)) (r .places) (r .store) (now (out .exit)) ⌝ }
     {
-        let mut line = self.line;
+        let mut store = self.store;
+        let mut places = self.places;
         let mut rows = place(frame);
-        lines::stage(&BEFORE_C2, &mut line, 0, 24, &mut rows);
+        rings::turn(&BEFORE_C2, &places, 0, &mut store, 0, &mut rows);
         let mut c2 = fill_q(rows);
-        lines::stage(&BETWEEN, &mut line, 24, 1512, &mut c2);
+        rings::turn(&BETWEEN, &places, 12, &mut store, 24, &mut c2);
         let mut c1 = fill_p(c2);
-        lines::stage(&AFTER_C1, &mut line, 1536, 16, &mut c1);
+        rings::turn(&AFTER_C1, &places, 39, &mut store, 1536, &mut c1);
         let f2 = circ::invert(c1);
         outcome::copy(&f2, out);
-        CircWriter { line }
+        rings::onward(&RING_LENGTHS, &mut places);
+        CircWriter { store, places }
     }
 
     // A refused step hands back the state as it was.
@@ -125,7 +137,8 @@ impl CircWriter {
 
     // An F1-frame of 24 bytes in, an F2-frame of 32 out.
     pub fn step(self, frame: &[u8], out: &mut [u8]) -> WriterStep
-        ensures { λ r. ⌜ step (sayOf (r .answer)) (r .next .line) (now (out .exit)) ≡ writes (self .line) (now (frame .entry)) (now (out .entry)) ⌝ }
+        ensures { λ r. ⌜ step (sayOf (r .answer)) (writerRings (r .next .places) (r .next .store)) (now (out .exit))
+            ≡ writesInPlace (writerRings (self .places) (self .store)) (now (frame .entry)) (now (out .entry)) ⌝ }
     {
         if frame.len() != 24 {
             outcome::wipe(out, 32);
@@ -133,6 +146,10 @@ impl CircWriter {
         }
         if out.len() != 32 {
             return self.refuse(WriterAnswer::WrongOutgoing);
+        }
+        if !rings::below(&RING_LENGTHS, &self.places) {
+            outcome::wipe(out, 32);
+            return self.refuse(WriterAnswer::WrongPlace);
         }
         let next = self.go(frame, out);
         WriterStep {

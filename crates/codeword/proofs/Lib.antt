@@ -2,4 +2,3 @@ pub mod Listed
 pub mod Search
 pub mod Faults
 pub mod Solved
-pub mod Moved

@@ -1,11 +1,9 @@
-// Codewords over the field of 256 elements (Annex A, Annex C.7): the sums of a word, the verdict on it, and parity.
+// Codewords over the field of 256 elements (Annex A, Annex C.7): the sums of a word, the verdict on it, and parity of two bytes; that of four is found in crate `generator`.
 mod parity;
 mod powers;
 mod sums;
 mod verdicts;
 
-pub use parity::parity_at_12;
-pub use parity::parity_at_end;
 pub use parity::parity_from_sums;
 pub use parity::parity_of_two;
 pub use sums::four_sums;

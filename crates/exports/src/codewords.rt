@@ -41,7 +41,7 @@ pub extern "C" fn road_verdict_of_two(w: &[u8], change: &mut [u64; 2]) -> u8
 pub extern "C" fn road_verdict_of_four(w: &[u8], change: &mut [u64; 2]) -> u8
     ensures { λ r. ⌜ Told 2 (λ say. say ≡ sayOf (verdict 4 (now (w .entry)))) r (now (change .exit)) ⌝ }
 {
-    tell(codeword::verdict_of_four(w), change)
+    tell(generator::verdict_of_four(w), change)
 }
 
 // The two bytes of parity behind a word.
@@ -58,7 +58,7 @@ pub extern "C" fn road_parity_of_two(w: &[u8], parity: &mut [u8; 2])
 pub extern "C" fn road_parity_at_end(w: &[u8], parity: &mut [u8; 4])
     ensures { λ _. ⌜ Parity 4 (now (parity .exit)) (now (w .entry) ++ now (parity .exit)) ⌝ }
 {
-    *parity = codeword::parity_at_end(w);
+    *parity = generator::parity_at_end(w);
 }
 
 // The four bytes of parity at 12 to 15 of 28: C2.
@@ -66,7 +66,7 @@ pub extern "C" fn road_parity_at_end(w: &[u8], parity: &mut [u8; 4])
 pub extern "C" fn road_parity_at_12(w: &[u8; 28], parity: &mut [u8; 4])
     ensures { λ _. ⌜ Parity 4 (now (parity .exit)) (take 12 (now (w .entry)) ++ (now (parity .exit) ++ drop 16 (now (w .entry)))) ⌝ }
 {
-    *parity = codeword::parity_at_12(*w);
+    *parity = generator::parity_at_12(*w);
 }
 
 // The marked bytes of a word of four sums are filled, where a codeword agrees with the others.

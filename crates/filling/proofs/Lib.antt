@@ -1,3 +1,4 @@
 mod Sweep
 mod Zeros
 mod Adding
+mod Look

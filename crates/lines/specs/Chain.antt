@@ -6,7 +6,6 @@ use lib.ListN.{take, drop, replicate}
 use Rattle.lines.specs.Delay.{rowsOut, rowsNext, total}
 use Rattle.lines.specs.Stream.{outAt}
 pub mod Streams
-pub mod Parts
 pub mod Zeros
 pub mod Fresh
 

@@ -20,6 +20,25 @@ extern "C" {
         out: *mut u8,
         out_length: usize,
     );
+    fn road_circ_write_step(
+        store: *mut [u8; 1552],
+        places: *mut [u8; 55],
+        frame: *const u8,
+        length: usize,
+        out: *mut u8,
+        out_length: usize,
+    ) -> u8;
+    fn road_circ_read_step(
+        store: *mut [u8; 3082],
+        places: *mut [u8; 56],
+        frame: *const u8,
+        length: usize,
+        marks: *const u8,
+        marks_length: usize,
+        out: *mut u8,
+        out_length: usize,
+        doubt: *mut [u64; 1],
+    ) -> u8;
     fn road_new_section_writer(dsv: *mut i64, level: *mut i64, sections: *mut u64);
     fn road_write_section(
         dsv: *mut i64,
@@ -56,6 +75,44 @@ pub fn circ_read(frames: &[u8], steps: &mut [u8], out: &mut [u8]) {
     let (bytes, length) = (frames.as_ptr(), frames.len());
     let (out, out_length) = (out.as_mut_ptr(), out.len());
     unsafe { road_circ_read(bytes, length, steps.as_mut_ptr(), steps.len(), out, out_length) }
+}
+
+/// A step of the writer from any state, which becomes the next.
+pub fn circ_write_step(
+    store: &mut [u8; 1552],
+    places: &mut [u8; 55],
+    frame: &[u8],
+    out: &mut [u8],
+) -> u8 {
+    let (bytes, length) = (frame.as_ptr(), frame.len());
+    let (out, out_length) = (out.as_mut_ptr(), out.len());
+    unsafe { road_circ_write_step(store, places, bytes, length, out, out_length) }
+}
+
+/// The same of the reader. With a frame comes its doubt mark.
+pub fn circ_read_step(
+    store: &mut [u8; 3082],
+    places: &mut [u8; 56],
+    frame: &[u8],
+    marks: &[u8],
+    out: &mut [u8],
+) -> Told<1> {
+    let (bytes, length) = (frame.as_ptr(), frame.len());
+    let (marks, marks_length) = (marks.as_ptr(), marks.len());
+    let (out, out_length) = (out.as_mut_ptr(), out.len());
+    told(|doubt| unsafe {
+        road_circ_read_step(
+            store,
+            places,
+            bytes,
+            length,
+            marks,
+            marks_length,
+            out,
+            out_length,
+            doubt,
+        )
+    })
 }
 
 /// The state in which nothing is written yet.

@@ -1,21 +1,24 @@
--- A reader's step where all lengths are right, and what it asks of the store.
+-- A reader's step where all lengths and all places are right.
 -- Assumes nothing.
-use Prim.Native.Nat.{ℕ, _+_, _≤_}
+use Prim.Native.Nat.{ℕ}
 use mathlib.Core.Path.{_≡_}
+use mathlib.Core.Bool.{true}
 use mathlib.Core.List.{List, [], _∷_}
 use lib.ListN.{length}
 use Rattle.outcome.specs.Say.{Say, done}
-use Rattle.lines.specs.Delay.{total}
+use Rattle.rings.specs.Rings.{waits, below, onward, unrolledAll}
 use Rattle.circ.specs.Marked.{markedOut, markedDoubt, markedNext}
+use Rattle.circ.specs.Rings.{readerWaits, markedWaits, shared}
 
--- a word with its marks behind it, and two times as many lines as it has rows, which stand in the store from a place on
-pub record WithMarks (lens store : List ℕ) (from half : ℕ) (word : List ℕ) : Type 0 where
-  pub rows : length word ≡ length lens + length lens
-  pub waits : total lens ≡ half
-  pub room : from + (half + half) ≤ length store
+pub record ReaderAsks (places frame marks out : List ℕ) : Type 0 where
+  pub frame-fits : length frame ≡ 32
+  pub marks-fit : length marks ≡ 32
+  pub outgoing : length out ≡ 24
+  pub in-place : below (waits readerWaits) places ≡ true
 
--- its next state, what it says and what the buffer then holds; x is the frame with its marks behind it
-pub record ReaderGone (s x next : List ℕ) (say : Say) (out : List ℕ) : Type 0 where
-  pub next-is : next ≡ markedNext s x
-  pub say-is : say ≡ done (markedDoubt s x ∷ [])
-  pub out-is : out ≡ markedOut s x
+-- x is the frame with its marks behind it
+pub record ReaderGone (places store x places' store' : List ℕ) (say : Say) (out : List ℕ) : Type 0 where
+  pub places-are : places' ≡ onward (waits readerWaits) places
+  pub line-is : unrolledAll markedWaits (shared places') store' ≡ markedNext (unrolledAll markedWaits (shared places) store) x
+  pub say-is : say ≡ done (markedDoubt (unrolledAll markedWaits (shared places) store) x ∷ [])
+  pub out-is : out ≡ markedOut (unrolledAll markedWaits (shared places) store) x

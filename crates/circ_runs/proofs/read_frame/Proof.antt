@@ -3,7 +3,8 @@
 use mathlib.Core.Path.{sym}
 use native.Mathlib.Omega.{arith}
 use lib.Seq.{length-take-le}
-use Rattle.circ_runs.specs.Coders.{reading}
+use Rattle.circ.specs.Rings.{readerRings}
+use Rattle.circ_runs.specs.Coders.{readingInPlace}
 use Rattle.circ_runs.proofs.Lent.{lent-in}
 use Rattle.circ_runs.proofs.Leaving.{leaves-all, frame-and-marks}
 use borrow.Author.Needs.{needs}
@@ -53,8 +54,8 @@ returns c =
     let stepped = told .before .before .before in
     let split = stepped .before .before .before .before in
     let start = split .before .before .before .before in
-    leaves-all reading _ _ _ _ _ _ _ _
-    (frame-and-marks (start .args .reader .line) (start .args .incoming .now) (start .args .out .now) (split .end-of .result) _ (split .end-of .ensures) (stepped .step .ensures))
+    leaves-all readingInPlace _ _ _ _ _ _ _ _
+    (frame-and-marks (readerRings (start .args .reader .places) (start .args .reader .store)) (start .args .incoming .now) (start .args .out .now) (split .end-of .result) _ (split .end-of .ensures) (stepped .step .ensures))
     (put .put .ensures)
     (told .was-read .ensures)
     (marked .doubt .ensures)

@@ -3,8 +3,9 @@
 use borrow.Author.Needs.{needs}
 use Prim.Native.Nat.{_-_}
 use lib.ListN.{length}
-use Rattle.circ.specs.Chains.{freshWriter}
-use Rattle.circ.specs.Marked.{freshReader}
+use mathlib.Core.Path.{ap₂}
+use Rattle.circ.specs.Rings.{Rings, writerRings, freshWriterRings, readerRings, freshReaderRings}
+use Rattle.circ.specs.Rings.Known.{writer-rest, reader-rest}
 use Rattle.circ_runs.specs.Inner.Coding.{coding, oneOf}
 use Rattle.circ_runs.proofs.Leaving.{of-reader, of-writer}
 use Rattle.circ_runs.proofs.Running.{Running, running-none, running-more, running-all}
@@ -13,7 +14,7 @@ use Rattle.circ_runs.proofs.run.Tie as tie
 
 abbrev Inv-loop : tie.InvT-loop
 Inv-loop reads frames steps₀ out₀ writer₀ reader₀ k₀ from₀ to₀ steps out writer reader k from to =
-    Running (coding reads) (oneOf reads freshReader freshWriter) frames steps₀ out₀ (oneOf reads (reader .line) (writer .line)) k from to steps out
+    Running (coding reads) (oneOf reads freshReaderRings freshWriterRings) frames steps₀ out₀ (oneOf reads (readerRings (reader .places) (reader .store)) (writerRings (writer .places) (writer .store))) k from to steps out
 
 abbrev μ-loop : tie.MeasureT-loop
 μ-loop reads frames steps₀ out₀ writer₀ reader₀ k₀ from₀ to₀ steps out writer reader k from to = length steps - k
@@ -26,8 +27,10 @@ new-requires-2 c κs = search needs
 
 loop-holds : tie.Need-loop-holds Inv-loop μ-loop
 loop-holds c =
-    let new = c .new2 in
-    running-none (coding (c .before .before .before .before .before .args .reads)) _ _ _ _ _ (rw (c .before .new .ensures, new .ensures))
+    let reads = c .before .before .before .before .before .args .reads in
+    let writer = c .before .new .ensures in
+    let reader = c .new2 .ensures in
+    running-none (coding reads) _ _ _ _ _ (ap₂ (λ (r w : Rings). oneOf reads r w) (reader-rest _ _ (reader .1) (reader .0)) (writer-rest _ _ (writer .1) (writer .0)))
 
 sub-loop : tie.Need-sub-loop Inv-loop μ-loop
 sub-loop c = search needs
@@ -93,7 +96,7 @@ loop-again c =
     let from-end = to-end .before .before in
     let turn = from-end .before .before .before in
     running-more (coding (turn .before .before .before .before .before .before .args .reads)) (turn .loop .inv) (from-end .end-of .result) (to-end .end-of2 .result) _ _ _
-    (from-end .before .before .loop-test .taken) (from-end .end-of .ensures) (to-end .end-of2 .ensures) (of-reader (turn .loop .writer .line) (done .before .if1 .taken) (done .read-frame .ensures)) (search needs)
+    (from-end .before .before .loop-test .taken) (from-end .end-of .ensures) (to-end .end-of2 .ensures) (of-reader (writerRings (turn .loop .writer .places) (turn .loop .writer .store)) (done .before .if1 .taken) (done .read-frame .ensures)) (search needs)
 
 loop-less-2 : tie.Need-loop-less-2 Inv-loop μ-loop
 loop-less-2 c = search needs
@@ -105,7 +108,7 @@ loop-again-2 c =
     let from-end = to-end .before .before in
     let turn = from-end .before .before .before in
     running-more (coding (turn .before .before .before .before .before .before .args .reads)) (turn .loop .inv) (from-end .end-of .result) (to-end .end-of2 .result) _ _ _
-    (from-end .before .before .loop-test .taken) (from-end .end-of .ensures) (to-end .end-of2 .ensures) (of-writer (turn .loop .reader .line) (done .before .if1 .left) (done .write-frame .ensures)) (search needs)
+    (from-end .before .before .loop-test .taken) (from-end .end-of .ensures) (to-end .end-of2 .ensures) (of-writer (readerRings (turn .loop .reader .places) (turn .loop .reader .store)) (done .before .if1 .left) (done .write-frame .ensures)) (search needs)
 
 same-length : tie.Need-same-length Inv-loop μ-loop
 same-length c = search needs

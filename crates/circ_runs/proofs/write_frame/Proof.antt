@@ -1,7 +1,7 @@
 -- `write_frame` meets its contract: it is what the step gives, with its answer in two bytes (`leaves-all`).
 -- Assumes nothing.
 use borrow.Author.Needs.{needs}
-use Rattle.circ_runs.specs.Coders.{writing}
+use Rattle.circ_runs.specs.Coders.{writingInPlace}
 use Rattle.circ_runs.proofs.Leaving.{leaves-all, no-value}
 use Rattle.circ_runs.proofs.write_frame.Statement.{statement}
 use Rattle.circ_runs.proofs.write_frame.Tie as tie
@@ -22,12 +22,12 @@ same-length-2 : tie.Need-same-length-2
 same-length-2 c = search needs
 
 returns : tie.Need-returns
-unfolding writing
+unfolding writingInPlace
 returns c =
     let put = c .before .before .before in
     let told = put .before .before in
     let stepped = told .before .before .before in
-    leaves-all writing _ _ _ _ _ _ _ _ (stepped .step .ensures) (put .put .ensures) (told .written .ensures) (no-value (stepped .step .result .answer))
+    leaves-all writingInPlace _ _ _ _ _ _ _ _ (stepped .step .ensures) (put .put .ensures) (told .written .ensures) (no-value (stepped .step .result .answer))
 
 pub write-frame-spec : {M : Type 1} → statement M
 write-frame-spec =

@@ -1,185 +1,175 @@
--- `circ_reader::CircReader::go` meets its contract: three stages over three parts of the store, with C1 and C2 between them, are a step of the chain (`chain-step`);
--- the frame and its doubt mark are read off the rows at the end.
+-- `circ_reader::CircReader::go` meets its contract: turns over the parts of the store, with C1 and C2 between them, are a step of the chain of the lines that the
+-- rings stand for (`reader-gone`); the frame and its doubt mark are read off the rows at the end.
 -- Assumes nothing.
-use Prim.Native.Nat.{ℕ}
-use mathlib.Core.Path.{_≡_, refl, ap, ap₂, _∙_}
-use mathlib.Core.List.{List, [], _∷_, _++_}
-use native.Mathlib.Omega.{arith}
+use mathlib.Core.Path.{_≡_, sym}
+use mathlib.Core.List.{_++_}
 use lib.ListN.{length}
-use Rattle.outcome.specs.Say as Say
-use Rattle.outcome.specs.Buffer.Lengths.{same-lengths}
-use Rattle.lines.specs.Delay.{total}
-use Rattle.lines.specs.Chain.Parts.{chain-step}
-use Rattle.circ.specs.Rows.{collected, doubt, readerBeforeC1, readerBetween, readerAfterC2}
-use Rattle.circ.specs.Marked.{twice, entering, passC1, passC2, markedNext, markedRows}
+use Rattle.circ.specs.Rows.{readerBeforeC1, readerBetween, readerAfterC2}
+use Rattle.rings.specs.Rings.{waits}
+use Rattle.circ.specs.Rings.{readerWaits}
+use Rattle.circ_reader.proofs.Turning.{reader-gone}
 use borrow.Author.Needs.{needs}
 use Rattle.circ_reader.proofs.CircReader.go.Statement.{statement}
 use Rattle.circ_reader.proofs.CircReader.go.Tie as tie
 
--- the store as it comes in
-long : (c : tie.Start) → length (c .args .self .line) ≡ 3082
+-- the state as it comes in
+long : (c : tie.Start) → length (c .args .self .store) ≡ 3082
 long c = search needs
 
-slice-aggregate-copy : tie.Need-slice-aggregate-copy
-slice-aggregate-copy c = search needs
+many : (c : tie.Start) → length (c .args .self .places) ≡ 56
+many c = search needs
 
-copy-requires : tie.Need-copy-requires
-copy-requires c κs = search needs
+-- the words on their way
+rows-1 : (c : tie.After-take-in) → length (c .take-in .result) ≡ 64
+rows-1 c = search needs
 
-slice-aggregate-copy-2 : tie.Need-slice-aggregate-copy-2
-slice-aggregate-copy-2 c = search needs
+rows-2 : (c : tie.After-pass-c1) → length (c .pass-c1 .result) ≡ 56
+rows-2 c = search needs
 
-copy-requires-2 : tie.Need-copy-requires-2
-copy-requires-2 c κs = search needs
+rows-3 : (c : tie.After-pass-c2) → length (c .pass-c2 .result) ≡ 30
+rows-3 c = search needs
 
-enter-requires : tie.Need-enter-requires
-enter-requires c κs = search needs
+take-in-requires : tie.Need-take-in-requires
+take-in-requires c κs = search needs
 
-slice-aggregate-stage-with-marks : tie.Need-slice-aggregate-stage-with-marks
-slice-aggregate-stage-with-marks c = search needs
+slice-aggregate-turn-with-marks : tie.Need-slice-aggregate-turn-with-marks
+slice-aggregate-turn-with-marks c = search needs
 
-slice-aggregate-stage-with-marks-2 : tie.Need-slice-aggregate-stage-with-marks-2
-slice-aggregate-stage-with-marks-2 c = search needs
+slice-aggregate-turn-with-marks-2 : tie.Need-slice-aggregate-turn-with-marks-2
+slice-aggregate-turn-with-marks-2 c = search needs
 
-slice-aggregate-stage-with-marks-3 : tie.Need-slice-aggregate-stage-with-marks-3
-slice-aggregate-stage-with-marks-3 c = search needs
+slice-aggregate-turn-with-marks-3 : tie.Need-slice-aggregate-turn-with-marks-3
+slice-aggregate-turn-with-marks-3 c = search needs
 
-stage-with-marks-requires : tie.Need-stage-with-marks-requires
-unfolding total
-stage-with-marks-requires c κs =
-    let start = c .before .before .before .before .before .before .before .before .before .before .before .before .before .before in
-    record { rows = search needs; waits = refl; room = omega (arith, long start) }
+slice-aggregate-turn-with-marks-4 : tie.Need-slice-aggregate-turn-with-marks-4
+slice-aggregate-turn-with-marks-4 c = search needs
+
+turn-with-marks-requires : tie.Need-turn-with-marks-requires
+turn-with-marks-requires c κs = search needs
 
 pass-c1-requires : tie.Need-pass-c1-requires
 pass-c1-requires c κs = search needs
 
-slice-aggregate-stage-with-marks-4 : tie.Need-slice-aggregate-stage-with-marks-4
-slice-aggregate-stage-with-marks-4 c = search needs
+slice-aggregate-turn-with-marks-5 : tie.Need-slice-aggregate-turn-with-marks-5
+slice-aggregate-turn-with-marks-5 c = search needs
 
-slice-aggregate-stage-with-marks-5 : tie.Need-slice-aggregate-stage-with-marks-5
-slice-aggregate-stage-with-marks-5 c = search needs
+slice-aggregate-turn-with-marks-6 : tie.Need-slice-aggregate-turn-with-marks-6
+slice-aggregate-turn-with-marks-6 c = search needs
 
-slice-aggregate-stage-with-marks-6 : tie.Need-slice-aggregate-stage-with-marks-6
-slice-aggregate-stage-with-marks-6 c = search needs
+slice-aggregate-turn-with-marks-7 : tie.Need-slice-aggregate-turn-with-marks-7
+slice-aggregate-turn-with-marks-7 c = search needs
 
-stage-with-marks-requires-2 : tie.Need-stage-with-marks-requires-2
-unfolding total
-stage-with-marks-requires-2 c κs = record { rows = search needs; waits = refl; room = search needs }
+slice-aggregate-turn-with-marks-8 : tie.Need-slice-aggregate-turn-with-marks-8
+slice-aggregate-turn-with-marks-8 c = search needs
+
+turn-with-marks-requires-2 : tie.Need-turn-with-marks-requires-2
+turn-with-marks-requires-2 c κs = search needs
 
 pass-c2-requires : tie.Need-pass-c2-requires
 pass-c2-requires c κs = search needs
 
-slice-aggregate-stage : tie.Need-slice-aggregate-stage
-slice-aggregate-stage c = search needs
+slice-aggregate-turn : tie.Need-slice-aggregate-turn
+slice-aggregate-turn c = search needs
 
-slice-aggregate-stage-2 : tie.Need-slice-aggregate-stage-2
-slice-aggregate-stage-2 c = search needs
+slice-aggregate-turn-2 : tie.Need-slice-aggregate-turn-2
+slice-aggregate-turn-2 c = sym (many (c .before .before .before .before .before .before .before .before .before .before .before .before .before .before .before .before .before .before .before .before .before .before .before .before))
 
-slice-aggregate-stage-3 : tie.Need-slice-aggregate-stage-3
-slice-aggregate-stage-3 c = search needs
+slice-aggregate-turn-3 : tie.Need-slice-aggregate-turn-3
+slice-aggregate-turn-3 c = search needs
 
-stage-requires : tie.Need-stage-requires
-stage-requires c κs = search needs
+slice-aggregate-turn-4 : tie.Need-slice-aggregate-turn-4
+slice-aggregate-turn-4 c = search needs
 
-slice-aggregate-collect : tie.Need-slice-aggregate-collect
-slice-aggregate-collect c = search needs
+turn-requires : tie.Need-turn-requires
+turn-requires c κs = search needs
 
-collect-requires : tie.Need-collect-requires
-collect-requires c κs = search needs
+slice-aggregate-onward : tie.Need-slice-aggregate-onward
+slice-aggregate-onward c = search needs
 
-slice-aggregate-copy-3 : tie.Need-slice-aggregate-copy-3
-slice-aggregate-copy-3 c = search needs
+slice-aggregate-onward-2 : tie.Need-slice-aggregate-onward-2
+slice-aggregate-onward-2 c = sym (many (c .before .before .before .before .before .before .before .before .before .before .before .before .before .before .before .before .before .before .before .before .before .before .before .before .before .before .before .before .before .before .before))
 
-copy-requires-3 : tie.Need-copy-requires-3
-copy-requires-3 c κs = search needs
+onward-requires : tie.Need-onward-requires
+onward-requires c κs = search needs
 
-slice-aggregate-answer-by : tie.Need-slice-aggregate-answer-by
-slice-aggregate-answer-by c = search needs
+slice-aggregate-hand-out : tie.Need-slice-aggregate-hand-out
+slice-aggregate-hand-out c = search needs
 
-answer-by-requires : tie.Need-answer-by-requires
-answer-by-requires c κs = search needs
+hand-out-requires : tie.Need-hand-out-requires
+hand-out-requires c κs = (search needs, c .before .before .before .before .before .before .before .before .before .before .before .before .before .before .before .before .before .before .before .before .before .before .before .before .before .before .before .before .before .before .before .before .before .before .before .pre .outgoing)
 
 same-length : tie.Need-same-length
 same-length c = search needs
 
 returns : tie.Need-returns
-unfolding markedNext markedRows readerBeforeC1 readerBetween readerAfterC2 total
+unfolding readerBeforeC1 readerBetween readerAfterC2 readerWaits waits
 returns c =
-    let at-out = c .before .before .before .before in
-    let at-collect = at-out .before .before .before in
-    let at-3 = at-collect .before .before .before .before in
-    let at-c2 = at-3 .before .before .before .before in
+    let at-out = c .before .before in
+    let at-onward = at-out .before .before .before .before in
+    let at-3 = at-onward .before .before .before .before .before in
+    let at-c2 = at-3 .before .before .before .before .before in
     let at-2 = at-c2 .before .before .before in
-    let at-c1 = at-2 .before .before .before .before in
+    let at-c1 = at-2 .before .before .before .before .before in
     let at-1 = at-c1 .before .before .before in
-    let at-enter = at-1 .before .before .before .before in
-    let at-marks = at-enter .before .before in
-    let at-in = at-marks .before .before .before in
+    let at-in = at-1 .before .before .before .before .before in
     let start = at-in .before .before .before .before .before .before in
-    let frame = start .args .frame .now in
-    let marks = start .args .marks .now in
-    let came = same-lengths (at-in .copy .result) (length frame) 32 _ frame _ (at-in .copy .ensures) (omega arith) in
-    let marked = same-lengths (at-marks .copy2 .result) (length marks) 32 _ marks _ (at-marks .copy2 .ensures) (omega arith) in
-    let rows = at-3 .stage .last .1 .1 .1 .1 .0 in
-    let done =
-    chain-step (twice readerBeforeC1) (twice readerBetween) readerAfterC2 entering passC1 passC2 32 3024 26 3056 refl refl refl refl (frame ++ marks) (start .args .self .line)
-    (at-1 .stage-with-marks .last .1 .0)
-    (at-2 .stage-with-marks2 .last .1 .0)
-    (at-3 .stage .last .1 .0)
-    (at-enter .enter .result)
-    (at-1 .stage-with-marks .last .1 .1 .1 .1 .0)
+    let self = start .args .self in
+    reader-gone (self .places) (self .store) (many start) (long start) (start .pre .in-place)
+    (at-in .take-in .result)
+    (at-1 .turn-with-marks .last .1 .1 .1 .1 .1 .1 .0)
+    (at-1 .turn-with-marks .last .1 .1 .1 .0)
+    (rows-1 at-in)
+    (at-1 .turn-with-marks .ensures .0)
+    (at-1 .turn-with-marks .ensures .1)
     (at-c1 .pass-c1 .result)
-    (at-2 .stage-with-marks2 .last .1 .1 .1 .1 .0)
+    (at-2 .turn-with-marks2 .last .1 .1 .1 .1 .1 .1 .0)
+    (at-2 .turn-with-marks2 .last .1 .1 .1 .0)
+    (rows-2 at-c1)
+    (at-2 .turn-with-marks2 .ensures .0)
+    (at-2 .turn-with-marks2 .ensures .1)
     (at-c2 .pass-c2 .result)
-    rows
-    (long start)
-    (at-enter .enter .ensures ∙ ap₂ (λ (a b : List ℕ). entering (a ++ b)) came marked)
-    (at-1 .stage-with-marks .ensures .0)
-    (at-1 .stage-with-marks .ensures .1)
+    (at-3 .turn .last .1 .1 .1 .1 .1 .0)
+    (at-3 .turn .last .1 .1 .1 .0)
+    (rows-3 at-c2)
+    (at-3 .turn .ensures .0)
+    (at-3 .turn .ensures .1)
+    (start .args .frame .now ++ start .args .marks .now)
+    (at-out .hand-out .last .1 .0)
+    (at-onward .onward .last .1 .0)
+    _
+    (at-in .take-in .ensures)
     (at-c1 .pass-c1 .ensures)
-    (at-2 .stage-with-marks2 .ensures .0)
-    (at-2 .stage-with-marks2 .ensures .1)
     (at-c2 .pass-c2 .ensures)
-    (at-3 .stage .ensures .0)
-    (at-3 .stage .ensures .1) in
-    record {
-      next-is = done .0;
-      say-is = c .answer-by .ensures ∙ ap (λ (t : List ℕ). Say.done (doubt t ∷ [])) (done .1);
-      out-is =
-          same-lengths (at-out .copy3 .result) (length (at-collect .collect .result)) (length (start .args .out .now)) _ (at-collect .collect .result) _ (at-out .copy3 .ensures)
-          (ap length (at-collect .collect .ensures) ∙ omega arith)
-          ∙ at-collect .collect .ensures
-          ∙ ap collected (done .1);
-    }
+    (at-out .hand-out .ensures .0)
+    (at-out .hand-out .ensures .1)
+    (at-onward .onward .ensures)
 
 pub go-spec : {M : Type 1} → statement M
 go-spec =
     tie.close
     (tie.spec
-    slice-aggregate-copy
-    copy-requires
-    slice-aggregate-copy-2
-    copy-requires-2
-    enter-requires
-    slice-aggregate-stage-with-marks
-    slice-aggregate-stage-with-marks-2
-    slice-aggregate-stage-with-marks-3
-    stage-with-marks-requires
+    take-in-requires
+    slice-aggregate-turn-with-marks
+    slice-aggregate-turn-with-marks-2
+    slice-aggregate-turn-with-marks-3
+    slice-aggregate-turn-with-marks-4
+    turn-with-marks-requires
     pass-c1-requires
-    slice-aggregate-stage-with-marks-4
-    slice-aggregate-stage-with-marks-5
-    slice-aggregate-stage-with-marks-6
-    stage-with-marks-requires-2
+    slice-aggregate-turn-with-marks-5
+    slice-aggregate-turn-with-marks-6
+    slice-aggregate-turn-with-marks-7
+    slice-aggregate-turn-with-marks-8
+    turn-with-marks-requires-2
     pass-c2-requires
-    slice-aggregate-stage
-    slice-aggregate-stage-2
-    slice-aggregate-stage-3
-    stage-requires
-    slice-aggregate-collect
-    collect-requires
-    slice-aggregate-copy-3
-    copy-requires-3
-    slice-aggregate-answer-by
-    answer-by-requires
+    slice-aggregate-turn
+    slice-aggregate-turn-2
+    slice-aggregate-turn-3
+    slice-aggregate-turn-4
+    turn-requires
+    slice-aggregate-onward
+    slice-aggregate-onward-2
+    onward-requires
+    slice-aggregate-hand-out
+    hand-out-requires
     same-length
     returns)

@@ -1,56 +1,21 @@
--- `filling::marks::marked` meets its contract: from i on, n marks are not 0.
+-- `filling::marks::marked` meets its contract: none by a look, and else by counting.
 -- Assumes nothing.
-use native.Mathlib.Omega.{arith}
+use mathlib.Core.Path.{sym}
 use borrow.Author.Needs.{needs}
-use Rattle.filling.proofs.Sweep.{Counted, counted-none, counted-all, counted-fits, counted-kept, counted-lost}
 use Rattle.filling.proofs.marks.marked.Statement.{statement}
 use Rattle.filling.proofs.marks.marked.Tie as tie
 
-abbrev Inv-loop : tie.InvT-loop
-Inv-loop marks n₀ i₀ n i = Counted marks n i
+unmarked-requires : tie.Need-unmarked-requires
+unmarked-requires c κs = search needs
 
-abbrev μ-loop : tie.MeasureT-loop
-μ-loop marks n₀ i₀ n i = i
+returns : tie.Need-returns
+returns c = sym (c .before .unmarked .ensures (c .if1 .taken))
 
-loop-holds : tie.Need-loop-holds Inv-loop μ-loop
-loop-holds c = counted-none _
+counted-requires : tie.Need-counted-requires
+counted-requires c κs = search needs
 
-sub-i : tie.Need-sub-i Inv-loop μ-loop
-sub-i c = search needs
-
-shared-slice-read-if1 : tie.Need-shared-slice-read-if1 Inv-loop μ-loop
-shared-slice-read-if1 c = omega (arith, c .before .before .loop .inv .upto)
-
-add-n : tie.Need-add-n Inv-loop μ-loop
-add-n c = omega (arith, counted-fits _ (c .before .before .before .loop .inv) (c .before .before .loop-test .taken))
-
-loop-less : tie.Need-loop-less Inv-loop μ-loop
-loop-less c = search needs
-
-loop-again : tie.Need-loop-again Inv-loop μ-loop
-loop-again c = counted-lost _ (c .before .before .before .loop .inv) (c .before .before .loop-test .taken) (c .if1 .taken)
-
-loop-less-2 : tie.Need-loop-less-2 Inv-loop μ-loop
-loop-less-2 c = search needs
-
-loop-again-2 : tie.Need-loop-again-2 Inv-loop μ-loop
-loop-again-2 c = counted-kept _ (c .before .before .before .loop .inv) (c .before .before .loop-test .taken) (c .if1 .left)
-
-returns : tie.Need-returns Inv-loop μ-loop
-returns c = counted-all _ (c .before .loop .inv) (c .loop-test .left)
+returns-2 : tie.Need-returns-2
+returns-2 c = search needs
 
 pub marked-spec : {M : Type 1} → statement M
-marked-spec =
-    tie.close
-    (tie.spec
-    Inv-loop
-    μ-loop
-    loop-holds
-    sub-i
-    shared-slice-read-if1
-    add-n
-    loop-less
-    loop-again
-    loop-less-2
-    loop-again-2
-    returns)
+marked-spec = tie.close (tie.spec unmarked-requires returns counted-requires returns-2)

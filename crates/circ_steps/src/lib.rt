@@ -1,0 +1,85 @@
+// Single steps of the CIRC writer and of the CIRC reader for callers in other languages, who hold the state, store and places, and may begin with any.
+ghost use mathlib.Core.Path.{_≡_};
+ghost use mathlib.Core.List.{[]};
+ghost use Rattle.calls.specs.Step.{step};
+ghost use Rattle.circ.specs.Rings.{writerRings, writesInPlace, readerRings, readsInPlace};
+ghost use Rattle.circ_reader.specs.Answers as readers;
+ghost use Rattle.circ_writer.specs.Answers as writers;
+ghost use Rattle.told.specs.Told.{numberOf, Tells, Told};
+use circ_reader::CircReader;
+use circ_reader::ReaderAnswer;
+use circ_writer::CircWriter;
+use circ_writer::WriterAnswer;
+
+fn written(a: WriterAnswer) -> u8
+    ensures { λ r. ⌜ r ≡ numberOf (writers.sayOf a) ⌝ }
+{
+    match a {
+        WriterAnswer::Written => 0,
+        WriterAnswer::WrongIncoming => 1,
+        WriterAnswer::WrongOutgoing => 2,
+        WriterAnswer::WrongPlace => 6,
+    }
+}
+
+// With a frame comes its doubt mark.
+fn was_read(a: ReaderAnswer, doubt: &mut [u64; 1]) -> u8
+    ensures { λ r. ⌜ Tells 1 (readers.sayOf a) r (now (doubt .exit)) ⌝ }
+{
+    *doubt = [0];
+    match a {
+        ReaderAnswer::Sure => 0,
+        ReaderAnswer::InDoubt => {
+            *doubt = [1];
+            0
+        }
+        ReaderAnswer::WrongIncoming => 1,
+        ReaderAnswer::WrongOutgoing => 2,
+        ReaderAnswer::WrongPlace => 6,
+    }
+}
+
+// A step of the writer from the state that is lent, which becomes the next.
+pub fn write(store: &mut [u8; 1552], places: &mut [u8; 55], frame: &[u8], out: &mut [u8]) -> u8
+    ensures { λ r. ⌜ Told 0 (λ say. step say (writerRings (now (places .exit)) (now (store .exit))) (now (out .exit))
+        ≡ writesInPlace (writerRings (now (places .entry)) (now (store .entry))) (now (frame .entry)) (now (out .entry))) r [] ⌝ }
+{
+    let writer = CircWriter {
+        store: *store,
+        places: *places,
+    };
+    let step = writer.step(frame, out);
+    let next = step.next;
+    let next_store = next.store;
+    let next_places = next.places;
+    *store = next_store;
+    *places = next_places;
+    let answer = step.answer;
+    written(answer)
+}
+
+// The same of the reader.
+pub fn read(
+    store: &mut [u8; 3082],
+    places: &mut [u8; 56],
+    frame: &[u8],
+    marks: &[u8],
+    out: &mut [u8],
+    doubt: &mut [u64; 1],
+) -> u8
+    ensures { λ r. ⌜ Told 1 (λ say. step say (readerRings (now (places .exit)) (now (store .exit))) (now (out .exit))
+        ≡ readsInPlace (readerRings (now (places .entry)) (now (store .entry))) (now (frame .entry)) (now (marks .entry)) (now (out .entry))) r (now (doubt .exit)) ⌝ }
+{
+    let reader = CircReader {
+        store: *store,
+        places: *places,
+    };
+    let step = reader.step(frame, marks, out);
+    let next = step.next;
+    let next_store = next.store;
+    let next_places = next.places;
+    *store = next_store;
+    *places = next_places;
+    let answer = step.answer;
+    was_read(answer, doubt)
+}

@@ -1,0 +1,2 @@
+-- the code's register and its tables
+pub mod Inner

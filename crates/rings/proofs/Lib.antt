@@ -1,0 +1,5 @@
+mod Rest
+mod Swapping
+mod Moving
+mod Clamped
+mod Marked
