@@ -4,7 +4,7 @@ ghost use Prim.Native.Nat.{_*_, _≤_};
 ghost use lib.ListN.{length};
 ghost use Rattle.words.specs.Words.{words};
 ghost use Rattle.words.specs.LookUp.{Guide};
-ghost use Rattle.stream_windows.specs.Window.{runIn, headWrong, wordWrong, offenceIn};
+ghost use Rattle.stream_windows.specs.Window.{wordWrong, offenceIn};
 ghost use Rattle.stream_windows.specs.Window.Found.{Finding};
 ghost use Rattle.stream_judge.specs.Inner.{NoneBefore};
 use crate::bits;
@@ -14,31 +14,6 @@ use crate::words_listed;
 pub struct Offence {
     pub number: u64,
     pub place: usize,
-}
-
-// A run offends.
-fn run_in(v: u64) -> bool
-    ensures { λ r. ⌜ r ≡ runIn v ⌝ }
-{
-    let h = v / 8388608;
-    if h % 4 == 3 {
-        return true;
-    }
-    if h % 8 == 5 {
-        return true;
-    }
-    h == 2048
-}
-
-// A Sync Header is missing or extra.
-fn head_wrong(v: u64, p: usize) -> bool
-    ensures { λ r. ⌜ r ≡ headWrong p v ⌝ }
-{
-    let w = v % 16777216;
-    if p % 588 == 0 {
-        return w != 0b100000000001000000000010;
-    }
-    w == 0b100000000001000000000010
 }
 
 // A word or SYNC offends.
@@ -63,8 +38,8 @@ fn offence_in(table: &[u16; 256], guide: &[u8; 1351], p: usize, v: u64) -> u64
     requires { ⌜ (now table ≡ words) × Guide (now guide) ⌝ }
     ensures { λ r. ⌜ r ≡ offenceIn p v ⌝ }
 {
-    let run = run_in(v);
-    let head = head_wrong(v, p);
+    let run = stream_windows::run_in(v);
+    let head = stream_windows::head_wrong(v, p);
     let word = word_wrong(table, guide, p, v);
     if run {
         return 25;

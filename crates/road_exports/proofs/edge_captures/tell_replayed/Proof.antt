@@ -1,0 +1,51 @@
+-- `edge_captures::tell_replayed` meets its contract: each arm is a case of `sayOf`, told.
+-- Assumes nothing.
+use borrow.Author.Needs.{needs}
+use mathlib.Core.Path.{refl}
+use Rattle.road_exports.proofs.edge_captures.tell_replayed.Statement.{statement}
+use Rattle.road_exports.proofs.edge_captures.tell_replayed.Tie as tie
+
+enum-known-a : tie.Need-enum-known-a
+enum-known-a c = search needs
+
+enum-told : tie.Need-enum-told
+enum-told c = search needs
+
+enum-told-2 : tie.Need-enum-told-2
+enum-told-2 c = search needs
+
+enum-known-a-2 : tie.Need-enum-known-a-2
+enum-known-a-2 c = search needs
+
+enum-told-3 : tie.Need-enum-told-3
+enum-told-3 c = search needs
+
+returns : tie.Need-returns
+returns c = rw (c .before .before .a .given .1) (record { has-number = refl; has-values = refl })
+
+returns-2 : tie.Need-returns-2
+returns-2 c = search needs
+
+returns-3 : tie.Need-returns-3
+returns-3 c = search needs
+
+returns-4 : tie.Need-returns-4
+returns-4 c = rw (c .before .before .a2 .given .1) (record { has-number = refl; has-values = refl })
+
+returns-5 : tie.Need-returns-5
+returns-5 c = search needs
+
+pub tell-replayed-spec : {M : Type 1} → statement M
+tell-replayed-spec =
+    tie.close
+    (tie.spec
+    enum-known-a
+    enum-told
+    enum-told-2
+    enum-known-a-2
+    enum-told-3
+    returns
+    returns-2
+    returns-3
+    returns-4
+    returns-5)
