@@ -11,9 +11,9 @@ use Rattle.lines.specs.Delay.{total}
 use Rattle.rings.specs.Rings.{waits, below, onward, unrolledAll}
 use Rattle.rings.specs.Rings.Places.{InPlace, below-in-place, in-place-parts}
 use Rattle.rings.specs.Swap.{ringsOut, ringsNext}
-use Rattle.rings.specs.Section.{Stands, Turned}
-use Rattle.rings.specs.Section.Turn.{turned, turned-store}
-use Rattle.rings.specs.Section.Chain.{chain-out, chain-next}
+use Rattle.rings.specs.Stage.{Stands, Turned}
+use Rattle.rings.specs.Stage.Turn.{turned, turned-store}
+use Rattle.rings.specs.Stage.Chain.{chain-out, chain-next}
 use Rattle.circ.specs.Rows.{placed, beforeC2, between, afterC1, inverted}
 use Rattle.circ.specs.Chains.{withQ, withP, writerOut, writerNext}
 use Rattle.circ.specs.Codes.{qOf, pOf}

@@ -9,6 +9,7 @@ ghost use Rattle.finding.specs.FindSay as searched;
 ghost use Rattle.told.specs.Told.{numberOf, Tells, Told};
 use aligning::Aligned;
 use finding::Found;
+use told::tell_three;
 
 fn tell(a: Aligned) -> u8
     ensures { λ r. ⌜ r ≡ numberOf (written.sayOf a) ⌝ }
@@ -25,15 +26,11 @@ fn tell(a: Aligned) -> u8
 fn tell_found(a: Found, values: &mut [u64; 3]) -> u8
     ensures { λ r. ⌜ Tells 3 (searched.sayOf a) r (now (values .exit)) ⌝ }
 {
-    *values = [0, 0, 0];
     match a {
-        Found::At(frame, n, count) => {
-            *values = [frame as u64, n as u64, count as u64];
-            0
-        }
-        Found::WrongIncoming => 1,
-        Found::WrongOutgoing => 2,
-        Found::NoSync => 24,
+        Found::At(frame, n, count) => tell_three(0, frame as u64, n as u64, count as u64, values),
+        Found::WrongIncoming => tell_three(1, 0, 0, 0, values),
+        Found::WrongOutgoing => tell_three(2, 0, 0, 0, values),
+        Found::NoSync => tell_three(24, 0, 0, 0, values),
     }
 }
 

@@ -10,19 +10,17 @@ ghost use Rattle.told.specs.Told.{Tells, Told};
 use keeping::Listed;
 use replay::Replayed;
 use restoring::Recaptured;
+use told::tell_one;
+use told::tell_two;
 
 // With a list comes its used length.
 fn tell_listed(a: Listed, used: &mut [u64; 1]) -> u8
     ensures { λ r. ⌜ Tells 1 (listed.sayOf a) r (now (used .exit)) ⌝ }
 {
-    *used = [0];
     match a {
-        Listed::Done(n) => {
-            *used = [n as u64];
-            0
-        }
-        Listed::WrongIncoming => 1,
-        Listed::WrongOutgoing => 2,
+        Listed::Done(n) => tell_one(0, n as u64, used),
+        Listed::WrongIncoming => tell_one(1, 0, used),
+        Listed::WrongOutgoing => tell_one(2, 0, used),
     }
 }
 
@@ -30,15 +28,11 @@ fn tell_listed(a: Listed, used: &mut [u64; 1]) -> u8
 fn tell_recaptured(a: Recaptured, used: &mut [u64; 1]) -> u8
     ensures { λ r. ⌜ Tells 1 (recaptured.sayOf a) r (now (used .exit)) ⌝ }
 {
-    *used = [0];
     match a {
-        Recaptured::Done(n) => {
-            *used = [n as u64];
-            0
-        }
-        Recaptured::WrongIncoming => 1,
-        Recaptured::WrongOutgoing => 2,
-        Recaptured::WrongNumber => 19,
+        Recaptured::Done(n) => tell_one(0, n as u64, used),
+        Recaptured::WrongIncoming => tell_one(1, 0, used),
+        Recaptured::WrongOutgoing => tell_one(2, 0, used),
+        Recaptured::WrongNumber => tell_one(19, 0, used),
     }
 }
 
@@ -46,19 +40,12 @@ fn tell_recaptured(a: Recaptured, used: &mut [u64; 1]) -> u8
 fn tell_replayed(a: Replayed, values: &mut [u64; 2]) -> u8
     ensures { λ r. ⌜ Tells 2 (replayed.sayOf a) r (now (values .exit)) ⌝ }
 {
-    *values = [0, 0];
     match a {
-        Replayed::Done(used, n) => {
-            *values = [used as u64, n as u64];
-            0
-        }
-        Replayed::WrongIncoming => 1,
-        Replayed::WrongOutgoing => 2,
-        Replayed::IllegalRun(i) => {
-            *values = [i as u64, 0];
-            20
-        }
-        Replayed::NoHeader => 21,
+        Replayed::Done(used, n) => tell_two(0, used as u64, n as u64, values),
+        Replayed::WrongIncoming => tell_two(1, 0, 0, values),
+        Replayed::WrongOutgoing => tell_two(2, 0, 0, values),
+        Replayed::IllegalRun(i) => tell_two(20, i as u64, 0, values),
+        Replayed::NoHeader => tell_two(21, 0, 0, values),
     }
 }
 

@@ -4,27 +4,18 @@ ghost use Rattle.stream_rules.specs.Judging.{judging};
 ghost use Rattle.stream_judge.specs.Answers.{sayOf};
 ghost use Rattle.told.specs.Told.{Tells, Told};
 use stream_judge::SectionsJudged;
+use told::tell_one;
 
 // With an offence comes its bit position.
 fn tell(a: SectionsJudged, bit: &mut [u64; 1]) -> u8
     ensures { λ r. ⌜ Tells 1 (sayOf a) r (now (bit .exit)) ⌝ }
 {
-    *bit = [0];
     match a {
-        SectionsJudged::Accepted => 0,
-        SectionsJudged::WrongIncoming => 1,
-        SectionsJudged::WrongRun(p) => {
-            *bit = [p as u64];
-            25
-        }
-        SectionsJudged::WrongHeader(p) => {
-            *bit = [p as u64];
-            26
-        }
-        SectionsJudged::WrongWord(p) => {
-            *bit = [p as u64];
-            27
-        }
+        SectionsJudged::Accepted => tell_one(0, 0, bit),
+        SectionsJudged::WrongIncoming => tell_one(1, 0, bit),
+        SectionsJudged::WrongRun(p) => tell_one(25, p as u64, bit),
+        SectionsJudged::WrongHeader(p) => tell_one(26, p as u64, bit),
+        SectionsJudged::WrongWord(p) => tell_one(27, p as u64, bit),
     }
 }
 

@@ -21,16 +21,9 @@ fn word_wrong(table: &[u16; 256], guide: &[u8; 1351], p: usize, v: u64) -> bool
     requires { ⌜ (now table ≡ words) × Guide (now guide) ⌝ }
     ensures { λ r. ⌜ r ≡ wordWrong p v ⌝ }
 {
-    let m = p % 588;
-    if m < 27 {
-        return false;
-    }
-    if (m - 27) % 17 != 0 {
-        return false;
-    }
     let w = (v % 16777216 / 1024) as u16;
-    let right = words_listed::is_right_word(table, guide, p / 588 % 98, (m - 27) / 17, w);
-    !right
+    let known = words_listed::is_listed(table, guide, w);
+    offence_tests::is_word_wrong(p, w, known)
 }
 
 // The offence that a window shows.
@@ -41,16 +34,7 @@ fn offence_in(table: &[u16; 256], guide: &[u8; 1351], p: usize, v: u64) -> u64
     let run = stream_windows::run_in(v);
     let head = stream_windows::head_wrong(v, p);
     let word = word_wrong(table, guide, p, v);
-    if run {
-        return 25;
-    }
-    if head {
-        return 26;
-    }
-    if word {
-        return 27;
-    }
-    0
+    offence_tests::lowest(run, head, word)
 }
 
 // The first offence, where there is none before bit `start`.
@@ -71,7 +55,7 @@ pub(crate) fn search_from(channel: &[u8], n: usize, start: usize) -> Offence
                 place: p,
             };
         }
-        let b = bits::bit_at(channel, p + 40);
+        let b = judged_bits::bit_at(channel, p + 40);
         v = (2 * v + b) % 34359738368;
         p += 1;
     }

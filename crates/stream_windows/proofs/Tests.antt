@@ -1,7 +1,7 @@
 -- Each way out of the tests of 64 bits at once.
 -- Assumes nothing.
 use mathlib.Core.Path.{_≡_, sym, _∙_}
-use mathlib.Core.Bool.{Bool, true, false, _&&_}
+use mathlib.Core.Bool.{Bool, false}
 use Prim.Native.Nat.{ℕ, _/_, _%_, _^_}
 use borrow.Author.Tests.{ne-eqb, eq-eqb}
 use lib.Bits.{bitAnd, bitOr}
