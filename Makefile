@@ -22,6 +22,7 @@ test:
 
 bench:
 	rt staticlib exports
+	rt staticlib road_exports
 	rt check report
 	cd second && cargo run --offline --release --quiet --bin bench
 

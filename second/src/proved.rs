@@ -1,4 +1,4 @@
-//! The proved crates, by the functions of crate `exports`. Each hands back the number of its answer, 0 or document 01's number
+//! The proved crates, by the functions of the crates `exports` and `road_exports`. Each hands back the number of its answer, 0 or document 01's number
 //! of the refusal, and puts the values that come with it into lent memory, with zeros behind them.
 
 mod controls;

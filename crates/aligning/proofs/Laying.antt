@@ -11,9 +11,9 @@ use lib.Seq.{length-take-le, take-at}
 use Rattle.outcome.specs.Buffer.Part.{part-back, end-back}
 use Rattle.sector.specs.Layout.{zeros}
 use Rattle.sector.specs.Layout.Zeros.{length-zeros}
-use Rattle.f1_frames.specs.Exchange.{exchanged, wholeFrames}
-use Rattle.f1_frames.specs.Exchange.Pairs.{length-exchanged}
-use Rattle.f1_frames.specs.Exchange.Whole.{exchanged-whole}
+use Rattle.pair_exchange.specs.Exchange.{exchanged, wholeFrames}
+use Rattle.pair_exchange.specs.Exchange.Pairs.{length-exchanged}
+use Rattle.pair_exchange.specs.Exchange.Whole.{exchanged-whole}
 use Rattle.alignment.specs.Aligned.{framesFor, aligned}
 use Rattle.alignment.specs.Aligned.Placed.{behind, aligned-parts}
 

@@ -50,6 +50,6 @@ fn put_aligned(sectors: &[u8], n: usize, out: &mut [u8])
     let start = 4 * n;
     let end = start + sectors.len();
     outcome::clear(&mut out[0..start]);
-    f1_frames::exchange_pairs(sectors, &mut out[start..end]);
+    pair_exchange::exchange_pairs(sectors, &mut out[start..end]);
     outcome::clear(&mut out[end..]);
 }

@@ -8,7 +8,7 @@ use Rattle.outcome.specs.Say.{Say, done, refused, demand, Outcome, outcome}
 use Rattle.sector.specs.Layout.{zeros}
 use Rattle.f1_frames.specs.Frames.{f1Frames}
 use Rattle.alignment.specs.Row.{isRow}
-pub mod Ways
+pub mod WaysOut
 pub mod Placed
 pub mod AtNought
 

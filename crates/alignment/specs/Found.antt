@@ -11,7 +11,7 @@ use Rattle.lists.specs.Same.{same}
 use Rattle.sector.specs.Layout.{sync, zeros}
 use Rattle.f1_frames.specs.Frames.{bytesOf}
 use Rattle.alignment.specs.Row.{isRow}
-pub mod Ways
+pub mod WaysOut
 pub mod First
 pub mod Out
 pub mod Back

@@ -1,2 +1,2 @@
 pub mod Repairing
-pub mod Ways
+pub mod WaysOut

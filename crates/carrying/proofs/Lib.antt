@@ -1,3 +1,2 @@
-pub mod Looking
 pub mod Writing
-pub mod Ways
+pub mod WaysOut

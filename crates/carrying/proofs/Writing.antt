@@ -1,10 +1,10 @@
 -- Sector after Sector: each turn writes one more into its own part of the buffer, at the next address.
 -- Assumes nothing.
-use mathlib.Core.Path.{_≡_, refl, sym, ap, ap₂, subst, _∙_}
+use mathlib.Core.Path.{_≡_, refl, sym, ap, subst, _∙_}
 use mathlib.Core.Bool.{true}
 use mathlib.Core.List.{List, [], _++_}
 use mathlib.Core.Logic.{_⊎_, inl, inr}
-use Prim.Native.Nat.{ℕ, suc, _+_, _-_, _*_, _≤_, _<_}
+use Prim.Native.Nat.{ℕ, _+_, _-_, _*_, _≤_, _<_}
 use native.Mathlib.Numerals.{add-one}
 use native.Mathlib.Omega.{arith}
 use borrow.Author.Tests.{eq-eqb}
@@ -12,7 +12,7 @@ use borrow.Rule.Slice.PartMut.{midOf, postOf, putMid, same-len-mid, take-put, mi
 use lib.ListN.{length, take, drop, length-drop}
 use lib.Seq.{drop-drop, length-take-le, take-take, take-at, drop-at}
 use Rattle.outcome.specs.First.Found.{lt-or-le}
-use Rattle.outcome.specs.Say.{Say, done}
+use Rattle.outcome.specs.Say.{Say}
 use Rattle.outcome.specs.Say.Refusals.{never}
 use Rattle.lists.specs.Agree.{drop-take}
 use Rattle.address.specs.declared.HeaderTime.{HeaderTime}
@@ -20,7 +20,8 @@ use Rattle.address.specs.Address.{inRange}
 use Rattle.counting.specs.Count.{room, following, after}
 use Rattle.counting.specs.Count.OneMore.{counted}
 use Rattle.data_frame.specs.DataFrame.{mainData}
-use Rattle.writer.specs.Write.{Asked, isWritten, says, Writes, refuses, writes}
+use Rattle.modes.specs.Modes.{isWritten}
+use Rattle.writer.specs.Write.{Asked, Writes, refuses, writes}
 use Rattle.batch.specs.Sectors.{sectorAt}
 use Rattle.batch.specs.Sectors.Apart.{sector-before}
 use Rattle.carrying.specs.Carry.{DataFrames, frameAt, Carried}

@@ -2,19 +2,18 @@
 -- Assumes nothing.
 use mathlib.Core.Path.{_≡_}
 use mathlib.Core.List.{List, []}
-use Prim.Native.Nat.{ℕ, zero, suc, _*_, _<_, _≤_}
+use Prim.Native.Nat.{ℕ, _*_, _<_, _≤_}
 use lib.ListN.{length, take, drop, replicate}
 use Rattle.outcome.specs.Say.{Say, done, refused, demand}
 use Rattle.address.specs.declared.HeaderTime.{HeaderTime}
 use Rattle.address.specs.Address.{inRange}
 use Rattle.counting.specs.Count.{room, after}
 use Rattle.data_frame.specs.DataFrame.{mainData}
-use Rattle.frame_reader.specs.Reading.{faults}
+use Rattle.frame_faults.specs.AllFaults.{allFaults}
 use Rattle.writer.specs.Write.{Asked}
 use Rattle.batch.specs.Sectors.{sectorAt}
 use Rattle.carrying.specs.declared.Carrying.{Carrying}
 use Rattle.carrying.specs.declared.Carrying.the-variants.{Done, WrongIncoming, WrongOutgoing, WrongIdentification, WrongEdc, ReservedBit, WrongAddress, PastTheEnd}
-pub mod Faults
 pub mod One
 pub mod Sectors
 
@@ -27,11 +26,6 @@ pub record DataFrames (k : ℕ) (w : List ℕ) : Type 0 where
 -- frame i of them
 abbrev pub frameAt : ℕ → List ℕ → List ℕ
 frameAt i w = take 2064 (drop (2064 * i) w)
-
--- of several faulty frames the first decides, by its own order 28, 29, 30; where none is faulty the rest decides
-abbrev pub allFaults : ℕ → List ℕ → Say → Say
-allFaults zero w rest = rest
-allFaults (suc k) w rest = faults (take 2064 w) (allFaults k (drop 2064 w) rest)
 
 -- behind the frames come 4, the start address, and 31, the last Sector's address would pass the end of its area
 abbrev pub says : ℕ → List ℕ → HeaderTime → Say

@@ -1,17 +1,14 @@
 // Carrying the Main Data of 1 to 16 Data Frames over into Sectors of Mode 01 (document 02, §14).
 ghost use mathlib.Core.Path.{_≡_};
 ghost use mathlib.Core.Bool.{true};
-ghost use mathlib.Core.List.{[]};
 ghost use Prim.Native.Nat.{_*_};
 ghost use lib.ListN.{length, replicate};
-ghost use Rattle.outcome.specs.Say.{done};
 ghost use Rattle.address.specs.Address.{inRange};
 ghost use Rattle.counting.specs.Count.{room};
-ghost use Rattle.frame_reader.specs.Reading.{faults};
-ghost use Rattle.carrying.specs.Carry.{DataFrames, allFaults, Carried, Carries, sayOf};
-ghost use Rattle.carrying.specs.Inner.Numbers.{Counted, numberOf, refusalOf};
+ghost use Rattle.frame_faults.specs.AllFaults.{refusalOf};
+ghost use Rattle.carrying.specs.Carry.{DataFrames, Carried, Carries, sayOf};
+ghost use Rattle.carrying.specs.Inner.Numbers.{Counted};
 use address::HeaderTime;
-use frame_reader::FrameRead;
 
 // What becomes of a call.
 pub enum Carrying {
@@ -37,47 +34,6 @@ fn frames_in(frames: &[u8]) -> usize
         return 0;
     }
     n
-}
-
-// Room for the Main Data of a frame that is only looked at.
-fn blank() -> [u8; 2048]
-    ensures { λ r. ⌜ length r ≡ 2048 ⌝ }
-{
-    [0u8; 2048]
-}
-
-// The number that a frame is refused with, or 0.
-fn fault_of(frame: &[u8]) -> u8
-    requires { ⌜ length (now frame) ≡ 2064 ⌝ }
-    ensures { λ r. ⌜ r ≡ numberOf (faults (now (frame .entry)) (done [])) ⌝ }
-{
-    let mut main = blank();
-    let read = frame_reader::read_frame(frame, &mut main);
-    match read {
-        FrameRead::Done(_) => 0,
-        FrameRead::WrongIncoming => 1,
-        FrameRead::WrongOutgoing => 2,
-        FrameRead::WrongIdentification => 28,
-        FrameRead::WrongEdc => 29,
-        FrameRead::ReservedBit => 30,
-    }
-}
-
-// That of the first of `n` frames that is refused.
-fn first_fault(n: usize, frames: &[u8]) -> u8
-    requires { ⌜ DataFrames n (now frames) ⌝ }
-    ensures { λ r. ⌜ r ≡ numberOf (allFaults n (now (frames .entry)) (done [])) ⌝ }
-{
-    let mut i: usize = 0;
-    while i < n {
-        let at = 2064 * i;
-        let fault = fault_of(&frames[at..at + 2064]);
-        if fault != 0 {
-            return fault;
-        }
-        i += 1;
-    }
-    0
 }
 
 // What a call answers where a frame is refused.
@@ -129,7 +85,7 @@ pub fn carry(frames: &[u8], start: HeaderTime, out: &mut [u8]) -> Carrying
     if out.len() != 2352 * n {
         return Carrying::WrongOutgoing;
     }
-    let fault = first_fault(n, frames);
+    let fault = frame_faults::first_fault(frames);
     if fault != 0 {
         return refuse(refusal(fault), out);
     }

@@ -10,11 +10,12 @@ use lib.Seq.{take-all}
 use Rattle.outcome.specs.Buffer.{Filling}
 use Rattle.outcome.specs.Buffer.Filled.{filling-none, filling-more, filling-all}
 use Rattle.choosing.specs.declared.FrameChoice.{FrameChoice}
-use Rattle.choosing.specs.declared.Tally.{Tally}
-use Rattle.choosing.specs.declared.header.Tail.{Tail}
-use Rattle.choosing.specs.declared.trace.Choice.{Choice}
-use Rattle.choosing.specs.declared.trace.Trace.{Trace}
-use Rattle.choosing.specs.Choices.{wordChoice, wordsChosen, wordsTrace, afterHeader, tailChoice, frameChoice}
+use Rattle.traces.specs.declared.Tally.{Tally}
+use Rattle.header_choice.specs.declared.Tail.{Tail}
+use Rattle.traces.specs.declared.Choice.{Choice}
+use Rattle.traces.specs.declared.Trace.{Trace}
+use Rattle.header_choice.specs.HeaderChoice.{afterHeader, tailChoice}
+use Rattle.choosing.specs.Choices.{wordChoice, wordsChosen, wordsTrace, frameChoice}
 use Rattle.choosing.specs.Choices.Rows.{chosen-length, chosen-at, trace-more}
 
 pub record Chosen (start : Trace) (ks empty words : List ℕ) (t : Trace) (i : ℕ) : Type 0 where

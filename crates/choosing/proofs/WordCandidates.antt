@@ -8,6 +8,7 @@ use native.Mathlib.Nat.{mod-eq-of-lt}
 use native.Mathlib.Omega.{arith}
 use borrow.Author.Tests.{eqb-true, eqb-false}
 use lib.Dec.{eqb}
+use lib.ListN.{length}
 use Rattle.bits.specs.Bits.{bitsOf, number}
 use Rattle.bits.specs.Bits.Numbers.{length-bits, bits-join, number-bits}
 use Rattle.merging.specs.Automaton.{broken, passes, step, steps}
@@ -15,18 +16,19 @@ use Rattle.merging.specs.Chosen.{better, beforeWord, m100, m010, m001, m000}
 use Rattle.merging.specs.Dsv.{levelAfter, ups, downs, absolute}
 use Rattle.merging.specs.Automaton.Steps.{steps-append, steps-broken, step-low}
 use Rattle.merging.specs.Dsv.Levels.{mirror, ups-downs}
-use Rattle.choosing.specs.declared.profile.Profile.{Profile}
-use Rattle.choosing.specs.declared.trace.Choice.{Choice}
-use Rattle.choosing.specs.declared.trace.Trace.{Trace}
-use Rattle.choosing.specs.Inner.Candidates.{oneAfter, WordStands, betterOf}
+use Rattle.profiles.specs.declared.Profile.{Profile}
+use Rattle.traces.specs.declared.Choice.{Choice}
+use Rattle.traces.specs.declared.Trace.{Trace}
+use Rattle.traces.specs.Better.{betterOf}
+use Rattle.choosing.specs.Inner.{WordStands}
 use Rattle.choosing.specs.Choices.{beforeNextWord, chosenWord}
-use Rattle.choosing.specs.Inner.Profiles.{Profiled}
-use Rattle.choosing.specs.Inner.States.{entered, afterWord, afterZeros}
-use Rattle.choosing.specs.Inner.Strokes.{spent}
-use Rattle.choosing.specs.Traces.{tallyDsv, Fit}
-use Rattle.choosing.proofs.BetterOf.{better-stands}
-use Rattle.choosing.proofs.RightStates.{ones-enter, zeros-enter, one-low}
-use Rattle.choosing.proofs.RightStrokes.{spent-is}
+use Rattle.profiles.specs.Profiles.{Profiled}
+use Rattle.states.specs.States.{entered, afterWord, afterZeros, oneAfter}
+use Rattle.traces.specs.Strokes.{spent}
+use Rattle.traces.specs.Traces.{tallyDsv, Fit}
+use Rattle.traces.specs.Better.Stands.{better-stands}
+use Rattle.states.specs.States.Right.{ones-enter, zeros-enter, one-low}
+use Rattle.traces.specs.Strokes.Right.{spent-is}
 
 -- sums of the bits of a level
 sum0 : (u x : ℕ) → x ≡ 14 - u → 0 + (14 - u) ≡ 0 + (0 + (0 + x))
@@ -59,7 +61,7 @@ less : (u d x : ℕ) → u + d ≡ 14 → u ≡ x → d ≡ 14 - x
 less u d x e f = omega arith
 
 module _ (p : Profile) (ok : Profiled (p .word) p) where
-  word-run : (s e : ℕ) (m : List ℕ) → e ≡ steps s m → e ≤ broken → afterWord e p ≡ steps s (m ++ bitsOf 14 (p .word))
+  word-run : (s e : ℕ) (m : List ℕ) → e ≡ steps s m → e ≤ broken → afterWord e (p .lead) (p .plain) (p .ten) ≡ steps s (m ++ bitsOf 14 (p .word))
   word-run s e m q h = go (eqb e broken) refl ∙ ap (λ (x : ℕ). steps x (bitsOf 14 (p .word))) q ∙ sym (steps-append s m (bitsOf 14 (p .word)))
     where
       go : (t : Bool) → eqb e broken ≡ t → cond t broken (entered e (p .lead) (p .plain) (p .ten)) ≡ steps e (bitsOf 14 (p .word))
@@ -97,13 +99,18 @@ module _ (p : Profile) (ok : Profiled (p .word) p) where
   one-odd (suc (suc zero)) h = ap (λ (o : ℕ). 1 - o) (sym word-odd) ∙ sym (mirror (bitsOf 14 (p .word)) .2)
   one-odd (suc (suc (suc n))) h = absurd (omega arith)
 
+  one-few : (n : ℕ) → n ≤ 2 → length (oneAfter n ++ bitsOf 14 (p .word)) ≤ 30
+  one-few zero h = omega (arith, length-bits 14 (p .word))
+  one-few (suc zero) h = omega (arith, length-bits 14 (p .word))
+  one-few (suc (suc n)) h = omega (arith, length-bits 14 (p .word))
+
   module _ (t : Trace) (fit : Fit t) where
     pub one-stands : (n m : ℕ) → n ≤ 2 → bitsOf 3 m ≡ oneAfter n → m < 8
         → WordStands t (bitsOf 14 (p .word))
         (record {
           bits = m * 16384 + p .word;
           after = record {
-            run = afterWord (entered (t .run) n (2 - n) (13 - n)) p;
+            run = afterWord (entered (t .run) n (2 - n) (13 - n)) (p .lead) (p .plain) (p .ten);
             tally = spent (t .tally) (n + (14 - p .ups)) ((3 - n) + p .ups) (1 - p .odd);
           };
         })
@@ -117,12 +124,12 @@ module _ (p : Profile) (ok : Profiled (p .word) p) where
           after-is = λ i.
               record {
                 run = word-run (t .run) _ (oneAfter n) enter (rw enter (one-low n (t .run))) i;
-                tally = spent-is (t .tally) (oneAfter n ++ bitsOf 14 (p .word)) _ _ _ (fit .room .level-low) (one-ups n h) (one-downs n h) (one-odd n h) i;
+                tally = spent-is (t .tally) (oneAfter n ++ bitsOf 14 (p .word)) _ _ _ (fit .room) (one-few n h) (one-ups n h) (one-downs n h) (one-odd n h) i;
               };
         }
 
     pub zeros-stand : WordStands t (bitsOf 14 (p .word))
-        (record { bits = p .word; after = record { run = afterWord (afterZeros (t .run)) p; tally = spent (t .tally) (3 + p .ups) (14 - p .ups) (p .odd) } }) m000
+        (record { bits = p .word; after = record { run = afterWord (afterZeros (t .run)) (p .lead) (p .plain) (p .ten); tally = spent (t .tally) (3 + p .ups) (14 - p .ups) (p .odd) } }) m000
     zeros-stand =
         let enter : afterZeros (t .run) ≡ steps (t .run) m000 = zeros-enter (t .run) (fit .state) in
         let small : p .word < 16384 = ok .word-small in
@@ -133,7 +140,7 @@ module _ (p : Profile) (ok : Profiled (p .word) p) where
           after-is = λ i.
               record {
                 run = word-run (t .run) _ m000 enter (rw enter (step-low (step (step (t .run) 0) 0) 0)) i;
-                tally = spent-is (t .tally) (m000 ++ bitsOf 14 (p .word)) _ _ _ (fit .room .level-low) (high3 (p .ups) _ word-ups) (high0 (p .ups) _ word-downs) (sym word-odd) i;
+                tally = spent-is (t .tally) (m000 ++ bitsOf 14 (p .word)) _ _ _ (fit .room) (omega (arith, length-bits 14 (p .word))) (high3 (p .ups) _ word-ups) (high0 (p .ups) _ word-downs) (sym word-odd) i;
               };
         }
 

@@ -1,21 +1,20 @@
--- What is chosen, by the automaton (document 01, "Channel bits"): before a word, before a Sync Header, and in a whole frame. `light` and `fits`
--- say for which traces; for the others, and for numbers that are no symbol's, no bits are chosen and the trace stays as it is.
+-- What is chosen, by the automaton (document 01, "Channel bits"): before a word, and in a whole frame. `fits` says for which traces; for the
+-- others, and for numbers that are no symbol's, no bits are chosen and the trace stays as it is.
 -- Assumes nothing.
 use mathlib.Core.Bool.{cond, _&&_}
 use mathlib.Core.List.{List, [], _∷_, _++_}
 use Prim.Native.Nat.{ℕ}
 use lib.Dec.{ltb}
 use Rattle.bits.specs.Bits.{number}
-use Rattle.merging.specs.Automaton.{passes, start22, headed}
-use Rattle.merging.specs.Chosen.{beforeWord, beforeHeader}
-use Rattle.merging.specs.Rule.{header}
-use Rattle.choosing.specs.declared.FrameChoice.{FrameChoice}
-use Rattle.choosing.specs.declared.Tally.{Tally}
-use Rattle.choosing.specs.declared.header.Tail.{Tail}
-use Rattle.choosing.specs.declared.trace.Choice.{Choice}
-use Rattle.choosing.specs.declared.trace.Trace.{Trace}
+use Rattle.merging.specs.Automaton.{passes}
+use Rattle.merging.specs.Chosen.{beforeWord}
 use Rattle.words.specs.Symbols.{bitsAt}
-use Rattle.choosing.specs.Traces.{tallyAfter, traceAfter, tallyDsv, light, fits}
+use Rattle.traces.specs.declared.Choice.{Choice}
+use Rattle.traces.specs.declared.Tally.{Tally}
+use Rattle.traces.specs.declared.Trace.{Trace}
+use Rattle.traces.specs.Traces.{traceAfter, tallyDsv, fits}
+use Rattle.header_choice.specs.HeaderChoice.{afterHeader, tailChoice}
+use Rattle.choosing.specs.declared.FrameChoice.{FrameChoice}
 pub mod Rows
 pub mod Digits
 
@@ -40,22 +39,6 @@ wordsChosen t (k ∷ ks) = wordChoice t k .bits ∷ wordsChosen (wordChoice t k 
 unfoldable pub wordsTrace : Trace → List ℕ → Trace
 wordsTrace t [] = t
 wordsTrace t (k ∷ ks) = wordsTrace (wordChoice t k .after) ks
-
--- the trace after a Sync Header
-unfoldable pub afterHeader : Tally → Trace
-afterHeader t = record { run = headed; tally = cond (light t) (tallyAfter t header) t }
-
--- the Merging bits before a Sync Header: the automaton looks at its first 22 bits, since its 23rd is the ONE that makes it one
-abbrev pub beforeNextHeader : Trace → List ℕ
-beforeNextHeader t = beforeHeader (passes (t .run) start22) (tallyDsv (t .tally) header)
-
--- those as a number, and the tally after them
-unfoldable pub chosenTail : Trace → Tail
-chosenTail t = record { bits = number 0 (beforeNextHeader t); after = tallyAfter (t .tally) (beforeNextHeader t) }
-
--- where the trace fits
-unfoldable pub tailChoice : Trace → Tail
-tailChoice t = cond (fits t) (chosenTail t) (record { bits = 0; after = t .tally })
 
 -- a frame: its words after a Sync Header, and the Merging bits before the next one
 unfoldable pub frameChoice : Tally → List ℕ → FrameChoice

@@ -1,5 +1,4 @@
--- what the choice goes by, and what is chosen
-pub mod Traces
+-- what is chosen
 pub mod Choices
 -- contracts of private functions
 pub mod Inner

@@ -1,64 +1,17 @@
 // The choice of the Merging bits before a word, by the word's profile.
 ghost use mathlib.Core.Path.{_≡_};
-ghost use Prim.Native.Nat.{_+_, _-_, _*_, _≤_, _<_, _^_};
+ghost use Prim.Native.Nat.{_≤_, _<_};
 ghost use Rattle.bits.specs.Bits.{bitsOf};
-ghost use Rattle.merging.specs.Automaton.{broken};
 ghost use Rattle.merging.specs.Chosen.{m000};
-ghost use Rattle.choosing.specs.Choices.{chosenWord, wordChoice};
-ghost use Rattle.choosing.specs.Inner.Candidates.{oneAfter, WordStands};
-ghost use Rattle.choosing.specs.Inner.States.{entered, afterWord, afterZeros};
-ghost use Rattle.choosing.specs.Inner.Profiles.{Profiled, rows};
 ghost use Rattle.words.specs.Symbols.{symbols};
-ghost use Rattle.choosing.specs.Traces.{Fit};
-use crate::profile;
-use crate::profile::Profile;
-use crate::stroke;
-use crate::trace;
-use crate::trace::Choice;
-use crate::trace::Trace;
-
-// The state after some ZEROs and a ONE.
-fn enter(run: u8, zeros: u8, plain: u8, ten: u8) -> u8
-    requires { ⌜ zeros ≤ 200 ⌝ }
-    ensures { λ r. ⌜ r ≡ entered run zeros plain ten ⌝ }
-{
-    let z = run % 11 + zeros;
-    if z < 2 {
-        return trace::BROKEN;
-    }
-    if 10 < z {
-        return trace::BROKEN;
-    }
-    if z == 10 {
-        if run < 11 {
-            return ten;
-        }
-        return trace::BROKEN;
-    }
-    plain
-}
-
-// The state after a word.
-fn after_word(run: u8, p: Profile) -> u8
-    requires { ⌜ p .lead ≤ 10 ⌝ }
-    ensures { λ r. ⌜ r ≡ afterWord run p ⌝ }
-{
-    if run == trace::BROKEN {
-        return trace::BROKEN;
-    }
-    enter(run, p.lead, p.plain, p.ten)
-}
-
-// The state after 000.
-fn after_zeros(run: u8) -> u8
-    requires { ⌜ run < broken ⌝ }
-    ensures { λ r. ⌜ r ≡ afterZeros run ⌝ }
-{
-    if run % 11 < 8 {
-        return run + 3;
-    }
-    trace::BROKEN
-}
+ghost use Rattle.states.specs.States.{oneAfter};
+ghost use Rattle.profiles.specs.Profiles.{Profiled, rows};
+ghost use Rattle.traces.specs.Traces.{Fit};
+ghost use Rattle.choosing.specs.Choices.{chosenWord, wordChoice};
+ghost use Rattle.choosing.specs.Inner.{WordStands};
+use profiles::Profile;
+use traces::Choice;
+use traces::Trace;
 
 // Merging bits with a ONE after `before` ZEROs, and the word.
 fn with_one(t: Trace, p: Profile, m: u32, before: u8) -> Choice
@@ -66,10 +19,10 @@ fn with_one(t: Trace, p: Profile, m: u32, before: u8) -> Choice
     ensures { λ r. ⌜ WordStands t (bitsOf 14 (p .word)) r (oneAfter before) ⌝ }
 {
     let tally = t.tally;
-    let entry = enter(t.run, before, 2 - before, 13 - before);
-    let run = after_word(entry, p);
-    let a = profile::wide(before);
-    let after = stroke::spend(tally, a + (14 - p.ups), (3 - a) + p.ups, 1 - p.odd);
+    let entry = states::enter(t.run, before, 2 - before, 13 - before);
+    let run = states::after_word(entry, p.lead, p.plain, p.ten);
+    let a = before as u64;
+    let after = traces::spend(tally, a + (14 - p.ups), (3 - a) + p.ups, 1 - p.odd);
     let next = Trace {
         run: run,
         tally: after,
@@ -86,9 +39,9 @@ fn without_one(t: Trace, p: Profile) -> Choice
     ensures { λ r. ⌜ WordStands t (bitsOf 14 (p .word)) r m000 ⌝ }
 {
     let tally = t.tally;
-    let entry = after_zeros(t.run);
-    let run = after_word(entry, p);
-    let after = stroke::spend(tally, 3 + p.ups, 14 - p.ups, p.odd);
+    let entry = states::after_zeros(t.run);
+    let run = states::after_word(entry, p.lead, p.plain, p.ten);
+    let after = traces::spend(tally, 3 + p.ups, 14 - p.ups, p.odd);
     let next = Trace {
         run: run,
         tally: after,
@@ -108,7 +61,7 @@ fn best(t: Trace, p: Profile) -> Choice
     let b = with_one(t, p, 2, 1);
     let c = with_one(t, p, 1, 2);
     let d = without_one(t, p);
-    trace::better_of(trace::better_of(trace::better_of(a, b), c), d)
+    traces::better_of(traces::better_of(traces::better_of(a, b), c), d)
 }
 
 // What is chosen for symbol k.
@@ -116,9 +69,9 @@ pub(crate) fn choose_word(table: &[u8; 2064], t: Trace, k: usize) -> Choice
     requires { ⌜ now table ≡ rows symbols ⌝ }
     ensures { λ r. ⌜ r ≡ wordChoice t k ⌝ }
 {
-    if trace::is_fit(t) {
+    if traces::is_fit(t) {
         if k < 258 {
-            let p = profile::profile_of(table, k);
+            let p = profiles::profile_of(table, k);
             return best(t, p);
         }
         return Choice { bits: 0, after: t };

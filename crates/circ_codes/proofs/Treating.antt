@@ -1,7 +1,7 @@
 -- What becomes of a word by each of `treat`'s ways.
 -- Assumes nothing.
 use mathlib.Core.Path.{_≡_, refl, sym, ap, _∙_}
-use mathlib.Core.Bool.{Bool, true, false, cond}
+use mathlib.Core.Bool.{Bool, cond}
 use mathlib.Core.List.{List}
 use mathlib.Core.Option.{Option, none, some}
 use Prim.Native.Nat.{ℕ, _≤_, _<_}
@@ -10,7 +10,7 @@ use lib.ListN.{length}
 use Rattle.codeword.specs.Code.{weight}
 use Rattle.erasures.specs.Agreeing.{handedOn}
 use Rattle.filling.specs.Fill.{filled, isFilled, Fills}
-use Rattle.filling.specs.Fill.Ways.{filled-within}
+use Rattle.filling.specs.Fill.WaysOut.{filled-within}
 use Rattle.circ.specs.Codes.{markOf, corrected, lost, foundFor, treated, doubted}
 use Rattle.circ.specs.Codes.Treated.{Treats, treats-unmarked, found-agreeing}
 

@@ -10,7 +10,7 @@ use codeword::Verdict;
 fn mend(word: &mut [u8]) -> u8
     ensures { λ r. ⌜ (r ≡ lost (now (word .entry))) × (now (word .exit) ≡ corrected (now (word .entry))) ⌝ }
 {
-    let verdict = generator::verdict_of_four(word);
+    let verdict = quick_verdicts::verdict_of_four(word);
     match verdict {
         Verdict::Clean => 0,
         Verdict::Change(i, b) => {
@@ -26,7 +26,7 @@ pub(crate) fn treat(marks: &[u8], word: &mut [u8], most: usize) -> u8
     requires { ⌜ (length (now marks) ≡ length (now word)) × (length (now word) ≤ 255) × (most ≤ 4) ⌝ }
     ensures { λ r. ⌜ Treats most (now (marks .entry)) (now (word .entry)) (now (word .exit)) r ⌝ }
 {
-    let n = filling::marked(marks);
+    let n = marks::marked(marks);
     if n == 0 {
         return mend(word);
     }

@@ -9,7 +9,7 @@ use lib.ListN.{length, take, drop, length-drop, take-append-drop}
 use lib.Seq.{length-take-le, drop-drop, take-at, drop-at}
 use Rattle.rings.specs.Rings.{waits, below, onward}
 use Rattle.rings.specs.Rings.Places.{InPlace, below-in-place, in-place-parts, in-place-joined, length-onward}
-use Rattle.rings.specs.Section.Beside.{later}
+use Rattle.rings.specs.Stage.Beside.{later}
 use Rattle.circ.specs.Rows.{readerBeforeC1, readerBetween, readerAfterC2}
 use Rattle.circ.specs.Marked.{twice}
 use Rattle.circ.specs.Rings.{readerWaits, markedWaits, shared}

@@ -12,10 +12,10 @@ use Rattle.outcome.specs.Say as Say
 use Rattle.lines.specs.Delay.{total}
 use Rattle.rings.specs.Rings.{waits, below, onward, unrolledAll}
 use Rattle.rings.specs.Swap.{ringsOut, ringsNext, bothOut, bothNext}
-use Rattle.rings.specs.Section.{Stands, Turned}
-use Rattle.rings.specs.Section.Turn.{turned, turned-store}
-use Rattle.rings.specs.Section.Both.{both-turned, both-store}
-use Rattle.rings.specs.Section.Chain.{chain-out, chain-next}
+use Rattle.rings.specs.Stage.{Stands, Turned}
+use Rattle.rings.specs.Stage.Turn.{turned, turned-store}
+use Rattle.rings.specs.Stage.Both.{both-turned, both-store}
+use Rattle.rings.specs.Stage.Chain.{chain-out, chain-next}
 use Rattle.circ.specs.Rows.{collected, doubt, readerBeforeC1, readerBetween, readerAfterC2}
 use Rattle.circ.specs.Marked.{twice, entering, passC1, passC2, markedNext, markedRows}
 use Rattle.circ.specs.Rings.{readerWaits, markedWaits, shared}

@@ -113,6 +113,61 @@ fn hand_out(rows: &[u8], out: &mut [u8]) -> ReaderAnswer
     answer_by(rows)
 }
 
+// The step where all lengths and all places are right.
+fn go(
+    store: &mut [u8; 3082],
+    places: &mut [u8; 56],
+    frame: &[u8],
+    marks: &[u8],
+    out: &mut [u8],
+) -> ReaderAnswer
+    requires { ⌜ ReaderAsks (now places) (now frame) (now marks) (now out) ⌝ }
+    ensures { λ r. ⌜ ReaderGone (now (places .entry)) (now (store .entry)) (now (frame .entry) ++ now (marks .entry)) (now (places .exit)) (now (store .exit)) (sayOf r) (now (out .exit)) ⌝ }
+{
+    let mut c1 = take_in(frame, marks);
+    rings::turn_with_marks(&BEFORE_C1, places, 0, store, 0, 16, &mut c1);
+    let mut c2 = pass_c1(c1);
+    rings::turn_with_marks(&BETWEEN, places, 16, store, 32, 1544, &mut c2);
+    let mut rows = pass_c2(c2);
+    rings::turn(&AFTER_C2, places, 43, store, 3056, &mut rows);
+    rings::onward(&RING_LENGTHS, places);
+    hand_out(&rows, out)
+}
+
+// A refusal whose buffer is cleared.
+fn refuse(answer: ReaderAnswer, out: &mut [u8]) -> ReaderAnswer
+    ensures { λ r. ⌜ (r ≡ answer) × (now (out .exit) ≡ cleared 24 (now (out .entry))) ⌝ }
+{
+    outcome::wipe(out, 24);
+    answer
+}
+
+// An F2-frame of 32 bytes and as many marks in, an F1-frame of 24 out, sure or in doubt. The state is lent and becomes the next; a refusal leaves it.
+pub fn read_in_place(
+    store: &mut [u8; 3082],
+    places: &mut [u8; 56],
+    frame: &[u8],
+    marks: &[u8],
+    out: &mut [u8],
+) -> ReaderAnswer
+    ensures { λ r. ⌜ step (sayOf r) (readerRings (now (places .exit)) (now (store .exit))) (now (out .exit))
+        ≡ readsInPlace (readerRings (now (places .entry)) (now (store .entry))) (now (frame .entry)) (now (marks .entry)) (now (out .entry)) ⌝ }
+{
+    if frame.len() != 32 {
+        return refuse(ReaderAnswer::WrongIncoming, out);
+    }
+    if marks.len() != 32 {
+        return refuse(ReaderAnswer::WrongIncoming, out);
+    }
+    if out.len() != 24 {
+        return ReaderAnswer::WrongOutgoing;
+    }
+    if !rings::below(&RING_LENGTHS, places) {
+        return refuse(ReaderAnswer::WrongPlace, out);
+    }
+    go(store, places, frame, marks, out)
+}
+
 impl CircReader {
     // As if the F2-frames of endless zero F1-frames had gone before.
     pub fn new() -> Self
@@ -124,60 +179,17 @@ impl CircReader {
         }
     }
 
-    // The step where all lengths and all places are right.
-    fn go(self, frame: &[u8], marks: &[u8], out: &mut [u8]) -> ReaderStep
-        requires { ⌜ ReaderAsks (self .places) (now frame) (now marks) (now out) ⌝ }
-        ensures { λ r. ⌜ ReaderGone (self .places) (self .store) (now (frame .entry) ++ now (marks .entry)) (r .next .places) (r .next .store) (sayOf (r .answer)) (now (out .exit)) ⌝ }
-    {
-        let mut store = self.store;
-        let mut places = self.places;
-        let mut c1 = take_in(frame, marks);
-        rings::turn_with_marks(&BEFORE_C1, &places, 0, &mut store, 0, 16, &mut c1);
-        let mut c2 = pass_c1(c1);
-        rings::turn_with_marks(&BETWEEN, &places, 16, &mut store, 32, 1544, &mut c2);
-        let mut rows = pass_c2(c2);
-        rings::turn(&AFTER_C2, &places, 43, &mut store, 3056, &mut rows);
-        rings::onward(&RING_LENGTHS, &mut places);
-        let answer = hand_out(&rows, out);
-        ReaderStep {
-            next: CircReader { store, places },
-            answer,
-        }
-    }
-
-    // A refused step hands back the state as it was.
-    fn refuse(self, answer: ReaderAnswer) -> ReaderStep
-        ensures { λ r. ⌜ (r .next ≡ self) × (r .answer ≡ answer) ⌝ }
-    {
-        ReaderStep { next: self, answer }
-    }
-
-    // Besides, the buffer is cleared.
-    fn refuse_and_wipe(self, answer: ReaderAnswer, out: &mut [u8]) -> ReaderStep
-        ensures { λ r. ⌜ step (sayOf (r .answer)) (readerRings (r .next .places) (r .next .store)) (now (out .exit))
-            ≡ step (sayOf answer) (readerRings (self .places) (self .store)) (cleared 24 (now (out .entry))) ⌝ }
-    {
-        outcome::wipe(out, 24);
-        self.refuse(answer)
-    }
-
-    // An F2-frame of 32 bytes and as many marks in, an F1-frame of 24 out, sure or in doubt.
+    // The same of a state by value: a refused step hands it back as it was.
     pub fn step(self, frame: &[u8], marks: &[u8], out: &mut [u8]) -> ReaderStep
         ensures { λ r. ⌜ step (sayOf (r .answer)) (readerRings (r .next .places) (r .next .store)) (now (out .exit))
             ≡ readsInPlace (readerRings (self .places) (self .store)) (now (frame .entry)) (now (marks .entry)) (now (out .entry)) ⌝ }
     {
-        if frame.len() != 32 {
-            return self.refuse_and_wipe(ReaderAnswer::WrongIncoming, out);
+        let mut store = self.store;
+        let mut places = self.places;
+        let answer = read_in_place(&mut store, &mut places, frame, marks, out);
+        ReaderStep {
+            next: CircReader { store, places },
+            answer,
         }
-        if marks.len() != 32 {
-            return self.refuse_and_wipe(ReaderAnswer::WrongIncoming, out);
-        }
-        if out.len() != 24 {
-            return self.refuse(ReaderAnswer::WrongOutgoing);
-        }
-        if !rings::below(&RING_LENGTHS, &self.places) {
-            return self.refuse_and_wipe(ReaderAnswer::WrongPlace, out);
-        }
-        self.go(frame, marks, out)
     }
 }

@@ -14,10 +14,10 @@ ghost use Rattle.circ_runs.specs.Coders.{writing, reading, writingInPlac
 ghost use Rattle.circ_runs.specs.Inner.Coding.{coding, oneOf, Leaves};
 use crate::lending::end_of;
 use crate::lending::put;
-use circ_reader::CircReader;
 use circ_reader::ReaderAnswer;
-use circ_writer::CircWriter;
+use circ_reader::read_in_place;
 use circ_writer::WriterAnswer;
+use circ_writer::write_in_place;
 
 fn written(a: WriterAnswer) -> u8
     ensures { λ r. ⌜ r ≡ numberOf (writers.sayOf a) ⌝ }
@@ -56,26 +56,34 @@ fn doubt(a: ReaderAnswer) -> u8
 }
 
 // One call of the writer, whose answer goes into two bytes.
-fn write_frame(writer: CircWriter, frame: &[u8], pair: &mut [u8], out: &mut [u8]) -> CircWriter
+fn write_frame(
+    store: &mut [u8; 1552],
+    places: &mut [u8; 55],
+    frame: &[u8],
+    pair: &mut [u8],
+    out: &mut [u8],
+)
     requires { ⌜ length (now pair) ≡ 2 ⌝ }
-    ensures { λ r. ⌜ Leaves writingInPlace (writerRings (writer .places) (writer .store)) (call (now (frame .entry)) (now (out .entry))) (writerRings (r .places) (r .store)) (now (pair .exit)) (now (out .exit)) ⌝ }
+    ensures { λ _. ⌜ Leaves writingInPlace (writerRings (now (places .entry)) (now (store .entry))) (call (now (frame .entry)) (now (out .entry))) (writerRings (now (places .exit)) (now (store .exit))) (now (pair .exit)) (now (out .exit)) ⌝ }
 {
-    let step = writer.step(frame, out);
-    let answer = step.answer;
+    let answer = write_in_place(store, places, frame, out);
     put(written(answer), 0, pair);
-    step.next
 }
 
 // The same of the reader: the frame is the first 32 bytes, and behind it are its marks.
-fn read_frame(reader: CircReader, incoming: &[u8], pair: &mut [u8], out: &mut [u8]) -> CircReader
+fn read_frame(
+    store: &mut [u8; 3082],
+    places: &mut [u8; 56],
+    incoming: &[u8],
+    pair: &mut [u8],
+    out: &mut [u8],
+)
     requires { ⌜ length (now pair) ≡ 2 ⌝ }
-    ensures { λ r. ⌜ Leaves readingInPlace (readerRings (reader .places) (reader .store)) (call (now (incoming .entry)) (now (out .entry))) (readerRings (r .places) (r .store)) (now (pair .exit)) (now (out .exit)) ⌝ }
+    ensures { λ _. ⌜ Leaves readingInPlace (readerRings (now (places .entry)) (now (store .entry))) (call (now (incoming .entry)) (now (out .entry))) (readerRings (now (places .exit)) (now (store .exit))) (now (pair .exit)) (now (out .exit)) ⌝ }
 {
     let end = end_of(0, 32, incoming.len());
-    let step = reader.step(&incoming[..end], &incoming[end..], out);
-    let answer = step.answer;
+    let answer = read_in_place(store, places, &incoming[..end], &incoming[end..], out);
     put(was_read(answer), doubt(answer), pair);
-    step.next
 }
 
 // A run of one of the two, from a fresh state on.
@@ -83,8 +91,10 @@ fn run(reads: bool, frames: &[u8], steps: &mut [u8], out: &mut [u8])
     ensures { λ _. ⌜ left (now (steps .exit)) (now (out .exit))
         ≡ runs (coding reads) (oneOf reads freshReaderRings freshWriterRings) (now (steps .entry)) (now (frames .entry)) (now (out .entry)) ⌝ }
 {
-    let mut writer = CircWriter::new();
-    let mut reader = CircReader::new();
+    let mut write_store = [0u8; 1552];
+    let mut write_places = [0u8; 55];
+    let mut read_store = [0u8; 3082];
+    let mut read_places = [0u8; 56];
     let mut k: usize = 0;
     let mut from: usize = 0;
     let mut to: usize = 0;
@@ -96,9 +106,9 @@ fn run(reads: bool, frames: &[u8], steps: &mut [u8], out: &mut [u8])
         let pair = &mut steps[k..next];
         let part = &mut out[to..to_end];
         if reads {
-            reader = read_frame(reader, frame, pair, part);
+            read_frame(&mut read_store, &mut read_places, frame, pair, part);
         } else {
-            writer = write_frame(writer, frame, pair, part);
+            write_frame(&mut write_store, &mut write_places, frame, pair, part);
         }
         k = next;
         from = from_end;

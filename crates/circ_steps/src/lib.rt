@@ -6,9 +6,7 @@ ghost use Rattle.circ.specs.Rings.{writerRings, writesInPlace, readerRings, rea
 ghost use Rattle.circ_reader.specs.Answers as readers;
 ghost use Rattle.circ_writer.specs.Answers as writers;
 ghost use Rattle.told.specs.Told.{numberOf, Tells, Told};
-use circ_reader::CircReader;
 use circ_reader::ReaderAnswer;
-use circ_writer::CircWriter;
 use circ_writer::WriterAnswer;
 
 fn written(a: WriterAnswer) -> u8
@@ -44,18 +42,7 @@ pub fn write(store: &mut [u8; 1552], places: &mut [u8; 55], frame: &[u8], out: &
     ensures { λ r. ⌜ Told 0 (λ say. step say (writerRings (now (places .exit)) (now (store .exit))) (now (out .exit))
         ≡ writesInPlace (writerRings (now (places .entry)) (now (store .entry))) (now (frame .entry)) (now (out .entry))) r [] ⌝ }
 {
-    let writer = CircWriter {
-        store: *store,
-        places: *places,
-    };
-    let step = writer.step(frame, out);
-    let next = step.next;
-    let next_store = next.store;
-    let next_places = next.places;
-    *store = next_store;
-    *places = next_places;
-    let answer = step.answer;
-    written(answer)
+    written(circ_writer::write_in_place(store, places, frame, out))
 }
 
 // The same of the reader.
@@ -70,16 +57,8 @@ pub fn read(
     ensures { λ r. ⌜ Told 1 (λ say. step say (readerRings (now (places .exit)) (now (store .exit))) (now (out .exit))
         ≡ readsInPlace (readerRings (now (places .entry)) (now (store .entry))) (now (frame .entry)) (now (marks .entry)) (now (out .entry))) r (now (doubt .exit)) ⌝ }
 {
-    let reader = CircReader {
-        store: *store,
-        places: *places,
-    };
-    let step = reader.step(frame, marks, out);
-    let next = step.next;
-    let next_store = next.store;
-    let next_places = next.places;
-    *store = next_store;
-    *places = next_places;
-    let answer = step.answer;
-    was_read(answer, doubt)
+    was_read(
+        circ_reader::read_in_place(store, places, frame, marks, out),
+        doubt,
+    )
 }

@@ -1,4 +1,4 @@
--- Three turns over three parts of the store, with C2 and C1 between them, and then all places one on: a step of the chain of the lines that the rings stand for.
+-- Three turns over three parts of the store, with C2 and C1 between them: a step of the chain of the lines that the rings stand for, once all places go on.
 -- Assumes nothing.
 use Prim.Native.Nat.{ℕ, _≤_}
 use mathlib.Core.Path.{_≡_, refl, sym, ap, ap₂, _∙_, subst}
@@ -11,14 +11,14 @@ use Rattle.lines.specs.Delay.{total}
 use Rattle.rings.specs.Rings.{waits, below, onward, unrolledAll}
 use Rattle.rings.specs.Rings.Places.{InPlace, below-in-place, in-place-parts}
 use Rattle.rings.specs.Swap.{ringsOut, ringsNext}
-use Rattle.rings.specs.Section.{Stands, Turned}
-use Rattle.rings.specs.Section.Turn.{turned, turned-store}
-use Rattle.rings.specs.Section.Chain.{chain-out, chain-next}
+use Rattle.rings.specs.Stage.{Stands, Turned}
+use Rattle.rings.specs.Stage.Turn.{turned, turned-store}
+use Rattle.rings.specs.Stage.Chain.{chain-out, chain-next}
 use Rattle.circ.specs.Rows.{placed, beforeC2, between, afterC1, inverted}
 use Rattle.circ.specs.Chains.{withQ, withP, writerOut, writerNext}
 use Rattle.circ.specs.Codes.{qOf, pOf}
 use Rattle.circ.specs.Rings.{writerWaits}
-use Rattle.circ_writer.specs.Inner.Writing.{WriterGone}
+use Rattle.circ_writer.specs.Inner.Writing.{WriterTurned}
 
 module _ (ps s : List ℕ) (many : length ps ≡ 55) (long : length s ≡ 1552) (legal : below (waits writerWaits) ps ≡ true) where
   -- ---- the places and the parts of the store
@@ -173,20 +173,17 @@ module _ (ps s : List ℕ) (many : length ps ≡ 55) (long : length s ≡ 1552) 
             ∙ append-nil ((r₁ ++ r₂) ++ ringsNext afterC1 p₃ s₃ w₅)
             ∙ append-assoc r₁ r₂ (ringsNext afterC1 p₃ s₃ w₅)
 
-        -- the whole step, for the frame x, the frame f that goes out, and the places ps' after it
-        pub writer-gone : (x f ps' : List ℕ) → w₁ ≡ placed x → w₃ ≡ withQ qOf w₂ → w₅ ≡ withP pOf w₄ → f ≡ inverted w₆ → ps' ≡ onward (waits writerWaits) ps
-            → WriterGone ps s x ps' store₃ f
+        -- the three of them, for the frame x
+        pub writer-turned : (x : List ℕ) → w₁ ≡ placed x → w₃ ≡ withQ qOf w₂ → w₅ ≡ withP pOf w₄ → WriterTurned ps s x store₃ w₆
         unfolding writerWaits writerOut writerNext
-        writer-gone x f ps' e₁ e₂ e₃ ef ep =
+        writer-turned x e₁ e₂ e₃ =
             record {
-              places-are = ep;
               line-is =
-                  ap₂ (unrolledAll writerWaits) (ep ∙ ap (onward (waits writerWaits)) all-places) store-3
+                  ap₂ (unrolledAll writerWaits) (ap (onward (waits writerWaits)) all-places) store-3
                   ∙ chain-next placed (withQ qOf) (withP pOf) x e₁ turned₁ e₂ turned₂ e₃ turned₃
                   ∙ ap (λ (l : List ℕ). writerNext qOf pOf l x) line-back;
-              out-is =
-                  ef
-                  ∙ ap inverted (chain-out placed (withQ qOf) (withP pOf) x e₁ turned₁ e₂ turned₂ e₃ turned₃)
+              word-is =
+                  ap inverted (chain-out placed (withQ qOf) (withP pOf) x e₁ turned₁ e₂ turned₂ e₃ turned₃)
                   ∙ ap (λ (l : List ℕ). writerOut qOf pOf l x) line-back;
             }
           where

@@ -6,10 +6,12 @@ ghost use Rattle.circ.specs.Rows.{placed};
 ghost use Rattle.circ.specs.Chains.{freshWriter, withQ, withP};
 ghost use Rattle.circ.specs.Codes.{qOf, pOf};
 ghost use Rattle.circ_writer.specs.Answers.{sayOf};
-ghost use Rattle.circ_writer.specs.Inner.Writing.{WriterAsks, WriterGone};
+ghost use Rattle.circ_writer.specs.Inner.Writing.{WriterAsks, WriterTurned, WriterGone};
 ghost use Rattle.lines.specs.Delay.{zeros};
 ghost use Rattle.calls.specs.Step.{step};
-ghost use Rattle.circ.specs.Rings.{writerRings, writesInPlace};
+ghost use mathlib.Core.Bool.{true};
+ghost use Rattle.rings.specs.Rings.{waits, below};
+ghost use Rattle.circ.specs.Rings.{writerWaits, writerRings, writesInPlace};
 
 mod ring_lengths;
 mod waits;
@@ -98,6 +100,55 @@ fn fill_p(rows: [u8; 28]) -> [u8; 32]
     word
 }
 
+// The rows through all three stages, with Q and P between them; the places stay.
+fn encode(store: &mut [u8; 1552], places: &[u8; 55], frame: &[u8]) -> [u8; 32]
+    requires { ⌜ (length (now frame) ≡ 24) × (below (waits writerWaits) (now places) ≡ true) ⌝ }
+    ensures { λ r. ⌜ WriterTurned (now (places .entry)) (now (store .entry)) (now (frame .entry)) (now (store .exit)) r ⌝ }
+{
+    let mut rows = place(frame);
+    rings::turn(&BEFORE_C2, places, 0, store, 0, &mut rows);
+    let mut c2 = fill_q(rows);
+    rings::turn(&BETWEEN, places, 12, store, 24, &mut c2);
+    let mut c1 = fill_p(c2);
+    rings::turn(&AFTER_C1, places, 39, store, 1536, &mut c1);
+    c1
+}
+
+// The step where both lengths and all places are right.
+fn go(store: &mut [u8; 1552], places: &mut [u8; 55], frame: &[u8], out: &mut [u8])
+    requires { ⌜ WriterAsks (now places) (now frame) (now out) ⌝ }
+    ensures { λ _. ⌜ WriterGone (now (places .entry)) (now (store .entry)) (now (frame .entry)) (now (places .exit)) (now (store .exit)) (now (out .exit)) ⌝ }
+{
+    let f2 = circ::invert(encode(store, places, frame));
+    outcome::copy(&f2, out);
+    rings::onward(&RING_LENGTHS, places);
+}
+
+// An F1-frame of 24 bytes in, an F2-frame of 32 out. The state is lent and becomes the next; a refusal leaves it.
+pub fn write_in_place(
+    store: &mut [u8; 1552],
+    places: &mut [u8; 55],
+    frame: &[u8],
+    out: &mut [u8],
+) -> WriterAnswer
+    ensures { λ r. ⌜ step (sayOf r) (writerRings (now (places .exit)) (now (store .exit))) (now (out .exit))
+        ≡ writesInPlace (writerRings (now (places .entry)) (now (store .entry))) (now (frame .entry)) (now (out .entry)) ⌝ }
+{
+    if frame.len() != 24 {
+        outcome::wipe(out, 32);
+        return WriterAnswer::WrongIncoming;
+    }
+    if out.len() != 32 {
+        return WriterAnswer::WrongOutgoing;
+    }
+    if !rings::below(&RING_LENGTHS, places) {
+        outcome::wipe(out, 32);
+        return WriterAnswer::WrongPlace;
+    }
+    go(store, places, frame, out);
+    WriterAnswer::Written
+}
+
 impl CircWriter {
     // As if endless zero F1-frames had gone before.
     pub fn new() -> Self
@@ -109,52 +160,17 @@ impl CircWriter {
         }
     }
 
-    // The step where both lengths and all places are right.
-    fn go(self, frame: &[u8], out: &mut [u8]) -> CircWriter
-        requires { ⌜ WriterAsks (self .places) (now frame) (now out) ⌝ }
-        ensures { λ r. ⌜ WriterGone (self .places) (self .store) (now (frame .entry)) (r .places) (r .store) (now (out .exit)) ⌝ }
-    {
-        let mut store = self.store;
-        let mut places = self.places;
-        let mut rows = place(frame);
-        rings::turn(&BEFORE_C2, &places, 0, &mut store, 0, &mut rows);
-        let mut c2 = fill_q(rows);
-        rings::turn(&BETWEEN, &places, 12, &mut store, 24, &mut c2);
-        let mut c1 = fill_p(c2);
-        rings::turn(&AFTER_C1, &places, 39, &mut store, 1536, &mut c1);
-        let f2 = circ::invert(c1);
-        outcome::copy(&f2, out);
-        rings::onward(&RING_LENGTHS, &mut places);
-        CircWriter { store, places }
-    }
-
-    // A refused step hands back the state as it was.
-    fn refuse(self, answer: WriterAnswer) -> WriterStep
-        ensures { λ r. ⌜ (r .next ≡ self) × (r .answer ≡ answer) ⌝ }
-    {
-        WriterStep { next: self, answer }
-    }
-
-    // An F1-frame of 24 bytes in, an F2-frame of 32 out.
+    // The same of a state by value: a refused step hands it back as it was.
     pub fn step(self, frame: &[u8], out: &mut [u8]) -> WriterStep
         ensures { λ r. ⌜ step (sayOf (r .answer)) (writerRings (r .next .places) (r .next .store)) (now (out .exit))
             ≡ writesInPlace (writerRings (self .places) (self .store)) (now (frame .entry)) (now (out .entry)) ⌝ }
     {
-        if frame.len() != 24 {
-            outcome::wipe(out, 32);
-            return self.refuse(WriterAnswer::WrongIncoming);
-        }
-        if out.len() != 32 {
-            return self.refuse(WriterAnswer::WrongOutgoing);
-        }
-        if !rings::below(&RING_LENGTHS, &self.places) {
-            outcome::wipe(out, 32);
-            return self.refuse(WriterAnswer::WrongPlace);
-        }
-        let next = self.go(frame, out);
+        let mut store = self.store;
+        let mut places = self.places;
+        let answer = write_in_place(&mut store, &mut places, frame, out);
         WriterStep {
-            next,
-            answer: WriterAnswer::Written,
+            next: CircWriter { store, places },
+            answer,
         }
     }
 }

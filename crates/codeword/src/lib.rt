@@ -1,17 +1,5 @@
-// Codewords over the field of 256 elements (Annex A, Annex C.7): the sums of a word, the verdict on it, and parity of two bytes; that of four is found in crate `generator`.
-mod parity;
-mod powers;
-mod sums;
-mod verdicts;
-
-pub use parity::parity_from_sums;
-pub use parity::parity_of_two;
-pub use sums::four_sums;
-pub use sums::two_sums;
-pub use verdicts::fault_of_four;
-pub use verdicts::fault_of_two;
-pub use verdicts::verdict_of_four;
-pub use verdicts::verdict_of_two;
+// Codewords over the field of 256 elements (Annex A, Annex C.7): definitions and laws, and what is said of a word; `word_sums`, `word_parity`, `faults` and `verdicts`
+// have the code.
 
 // What the sums of a word say: nothing is wrong; one byte is, at a place, and what is to be added to it; or no codeword is near.
 pub enum Fault {

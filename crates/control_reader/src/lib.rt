@@ -1,16 +1,10 @@
 // Reading the 96 Control bytes of a Section (clause 22).
 ghost use mathlib.Core.Path.{_≡_};
-ghost use mathlib.Core.Bool.{not, _&&_, _||_};
-ghost use Prim.Native.Nat.{_+_, _/_, _%_, _≤_, _<_};
-ghost use lib.Dec.{eqb};
+ghost use Prim.Native.Nat.{_+_, _/_, _%_, _≤_};
 ghost use lib.ListN.{length, take, drop};
 ghost use Rattle.bits.specs.Bits.{number, pack};
-ghost use Rattle.lists.specs.Same.{same};
-ghost use Rattle.control.specs.Fields.{allowed};
-ghost use Rattle.control.specs.Channels.{controlBytes};
 ghost use Rattle.control_reader.specs.Reading.{qOf, crcHolds, sayOf, Reads};
 use control::Control;
-use control_writer::ControlWritten;
 
 // What reading answers.
 pub enum ControlRead {
@@ -73,43 +67,6 @@ fn crc_right(bytes: &[u8], q: &[u8; 10]) -> bool
     c[1] == q_byte(bytes, 88)
 }
 
-// A q-Mode other than 1 or 2.
-fn unknown_mode(mode: u8) -> bool
-    ensures { λ r. ⌜ r ≡ not (eqb mode 1 || eqb mode 2) ⌝ }
-{
-    if mode == 0 {
-        return true;
-    }
-    2 < mode
-}
-
-fn same_bytes(a: &[u8], b: &[u8]) -> bool
-    requires { ⌜ (length (now a) ≡ 96) × (length (now b) ≡ 96) ⌝ }
-    ensures { λ r. ⌜ r ≡ same (now (a .entry)) (now (b .entry)) ⌝ }
-{
-    let mut i: usize = 0;
-    while i < 96 {
-        if a[i] != b[i] {
-            return false;
-        }
-        i += 1;
-    }
-    true
-}
-
-// Whether clause 22 allows the fields and these are their bytes.
-fn is_written(fields: Control, bytes: &[u8]) -> bool
-    requires { ⌜ length (now bytes) ≡ 96 ⌝ }
-    ensures { λ r. ⌜ r ≡ (allowed fields && same (controlBytes fields) (now (bytes .entry))) ⌝ }
-{
-    let mut made = [0u8; 96];
-    match control_writer::write_control(fields, &mut made) {
-        ControlWritten::Done => same_bytes(&made, bytes),
-        ControlWritten::WrongOutgoing => false,
-        ControlWritten::NotAllowed => false,
-    }
-}
-
 // 96 Control bytes become fields. The CRC is looked at before any field.
 pub fn read_control(bytes: &[u8]) -> ControlRead
     ensures { λ r. ⌜ Reads (now (bytes .entry)) (sayOf r) ⌝ }
@@ -121,12 +78,12 @@ pub fn read_control(bytes: &[u8]) -> ControlRead
     if !crc_right(bytes, &q) {
         return ControlRead::WrongCrc;
     }
-    if unknown_mode(q[0] % 16) {
+    if control_checks::unknown_mode(q[0] % 16) {
         return ControlRead::UnknownMode;
     }
     let flag = bytes[0] / 128 == 1;
     let fields = control_fields::fields_in(flag, &q);
-    if !is_written(fields, bytes) {
+    if !control_checks::is_written(fields, bytes) {
         return ControlRead::NotAllowed;
     }
     ControlRead::Read(fields)

@@ -1,4 +1,2 @@
--- bits beside the p bit
-pub mod QBits
 -- the ways out
-pub mod Ways
+pub mod WaysOut

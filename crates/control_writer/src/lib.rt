@@ -1,19 +1,17 @@
 // Writing the 96 Control bytes of a Section (clause 22).
 ghost use mathlib.Core.Path.{_≡_};
-ghost use Prim.Native.Nat.{_+_, _*_, _/_, _%_, _^_, _-_, _<_};
+ghost use Prim.Native.Nat.{_+_, _*_};
 ghost use mathlib.Core.List.{_∷_, _++_};
 ghost use lib.ListN.{length};
 ghost use Rattle.outcome.specs.Say.{outcome};
 ghost use Rattle.bits.specs.Bits.{unpack};
-ghost use Rattle.control.specs.Channels.{pBit, framed, controlField, qMode, itemFields};
+ghost use Rattle.control.specs.Channels.{controlField, qMode};
 ghost use Rattle.control.specs.Inner.FieldBytes.{dataBytes};
 ghost use Rattle.control_writer.specs.Inner.Coded.{coded};
 ghost use Rattle.control_writer.specs.Writing.{sayOf, writing};
 use control::Control;
 use control::Copying;
-use control::Item;
 use control::QData;
-use control_time::ControlTime;
 
 // What writing answers.
 pub enum ControlWritten {
@@ -29,60 +27,6 @@ fn control_field(copying: Copying) -> u8
     match copying {
         Copying::Forbidden => 0b0100,
         Copying::Permitted => 0b0110,
-    }
-}
-
-// Behind a first byte: the q-Data field of an item of the table of contents (22.3.4).
-fn item_bytes(first: u8, item: Item, t: ControlTime) -> [u8; 10]
-    ensures { λ r. ⌜ r ≡ first ∷ itemFields item t ⌝ }
-{
-    match item {
-        Item::Track(n, at) => [first, 0, n, t.0, t.1, t.2, 0, at.0, at.1, at.2],
-        Item::FirstTrack(n) => [first, 0, 0xA0, t.0, t.1, t.2, 0, n, 0, 0],
-        Item::LastTrack(n) => [first, 0, 0xA1, t.0, t.1, t.2, 0, n, 0, 0],
-        Item::LeadOutTrack(at) => [first, 0, 0xA2, t.0, t.1, t.2, 0, at.0, at.1, at.2],
-    }
-}
-
-// A byte of a Catalog Number, above its lowest s bits.
-fn digits_at(n: u64, s: u32) -> u8
-    requires { ⌜ s < 64 ⌝ }
-    ensures { λ r. ⌜ r ≡ n / 2 ^ s % 256 ⌝ }
-{
-    ((n >> s) % 256) as u8
-}
-
-// Behind a first byte: the q-Data field.
-fn data_bytes(first: u8, q_data: QData) -> [u8; 10]
-    ensures { λ r. ⌜ r ≡ first ∷ dataBytes q_data ⌝ }
-{
-    match q_data {
-        QData::UserData(tno, index, t, at) => [
-            first,
-            tno,
-            index,
-            t.0,
-            t.1,
-            t.2,
-            0,
-            at.0,
-            at.1,
-            at.2,
-        ],
-        QData::LeadOut(t, at) => [first, 0xAA, 0x01, t.0, t.1, t.2, 0, at.0, at.1, at.2],
-        QData::LeadIn(item, t) => item_bytes(first, item, t),
-        QData::CatalogNumber(n, frac) => [
-            first,
-            digits_at(n, 44),
-            digits_at(n, 36),
-            digits_at(n, 28),
-            digits_at(n, 20),
-            digits_at(n, 12),
-            digits_at(n, 4),
-            ((n % 16) as u8) * 16,
-            0,
-            frac,
-        ],
     }
 }
 
@@ -103,37 +47,7 @@ fn field_bytes(copying: Copying, q_data: QData) -> [u8; 10]
     ensures { λ r. ⌜ r ≡ (controlField copying * 16 + qMode q_data) ∷ dataBytes q_data ⌝ }
 {
     let first = control_field(copying) * 16 + q_mode(q_data);
-    data_bytes(first, q_data)
-}
-
-// Bit j of a byte, the most significant first.
-fn bit(b: u8, j: u32) -> u8
-    requires { ⌜ j < 8 ⌝ }
-    ensures { λ r. ⌜ r ≡ b / 2 ^ (7 - j) % 2 ⌝ }
-{
-    (b >> (7 - j)) % 2
-}
-
-// The p bit (22.2).
-fn p_bit(flag: bool) -> u8
-    ensures { λ r. ⌜ r ≡ pBit flag ⌝ }
-{
-    if flag {
-        return 1;
-    }
-    0
-}
-
-// Each bit becomes the q bit of a Control byte, beside the p bit.
-fn spread(p: u8, bytes: &[u8], out: &mut [u8])
-    requires { ⌜ (p < 2) × (length (now out) ≡ 8 * length (now bytes)) ⌝ }
-    ensures { λ _. ⌜ now (out .exit) ≡ framed p (unpack (now (bytes .entry))) ⌝ }
-{
-    let mut k: usize = 0;
-    while k < out.len() {
-        out[k] = p * 128 + bit(bytes[k / 8], (k % 8) as u32) * 64;
-        k += 1;
-    }
+    control_data::data_bytes(first, q_data)
 }
 
 // Ten bytes and then two.
@@ -180,8 +94,8 @@ pub fn write_control(fields: Control, out: &mut [u8]) -> ControlWritten
     let flag = fields.flag;
     let copying = fields.copying;
     let q_data = fields.q_data;
-    let p = p_bit(flag);
     let q = q_bytes(copying, q_data);
-    spread(p, &q, out);
+    let made = control_spread::spread(flag, q);
+    outcome::copy(&made, out);
     ControlWritten::Done
 }

@@ -1,15 +1,15 @@
 -- Which numbers stay small, by the area: the time that is left, and the bytes where there is room for one more.
 -- Assumes nothing.
-use mathlib.Core.Path.{_≡_, refl, ap, subst, _∙_}
+use mathlib.Core.Path.{_≡_, refl, ap, subst}
 use mathlib.Core.Bool.{Bool, true, false, cond, _&&_}
-use Prim.Native.Nat.{ℕ, _+_, _-_, _*_, _/_, _%_, _<_, _≤_}
+use Prim.Native.Nat.{ℕ, _-_, _<_}
 use native.Mathlib.Omega.{arith}
 use Rattle.address.specs.declared.HeaderTime.{HeaderTime}
 use Rattle.address.specs.Address.{inLeadIn, inRange}
 use Rattle.address.specs.Elapsed.{elapsed}
 use Rattle.counting.specs.Count.{endOf, left, room}
 use Rattle.counting.specs.Count.Bytes.{value, and-both, Digits}
-use Rattle.counting.specs.Count.OneMore.{Ranged, ranged, minute, top, minute-digits, before-end, not-last-minute}
+use Rattle.counting.specs.Count.OneMore.{ranged, minute, top, minute-digits, before-end, not-last-minute}
 
 -- what is left to the end of the area, by whether it is the Lead-in Area
 pub record LeftOf (t : HeaderTime) (end : ℕ) : Type 0 where

@@ -9,8 +9,8 @@ pub mod Right
 pub mod Vector
 
 -- G(x) = x^16 + x^12 + x^5 + 1
-abbrev pub generator : List ℕ
-generator = powers 17 (16 ∷ 12 ∷ 5 ∷ 0 ∷ [])
+abbrev pub checkPolynomial : List ℕ
+checkPolynomial = powers 17 (16 ∷ 12 ∷ 5 ∷ 0 ∷ [])
 
 -- each bit inverted
 abbrev pub inverted : List ℕ → List ℕ
@@ -19,4 +19,4 @@ inverted (c ∷ cs) = (1 - c) ∷ inverted cs
 
 -- the sixteen bits of the CRC field that follows some bits, the most significant first
 unfoldable pub crc : List ℕ → List ℕ
-crc bits = inverted (check generator bits)
+crc bits = inverted (check checkPolynomial bits)

@@ -3,5 +3,6 @@ pub mod Bits
 pub mod Polynomial
 pub mod Multiple
 pub mod Edc
--- the code's register and its table
-pub mod Inner
+-- the register of the division and the rows of its table
+pub mod Register
+pub mod Rows

@@ -1,4 +1,2 @@
--- the ways out of `find`
-pub mod Ways
 -- from turn to turn
 pub mod Turning

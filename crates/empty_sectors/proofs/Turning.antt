@@ -13,10 +13,10 @@ use Rattle.reading.specs.declared.Read.{Read}
 use Rattle.reading.specs.declared.Read.the-variants.{Failed, End, More}
 use Rattle.reading.specs.Reading.{StoppedAt, Fills}
 use Rattle.reading.proofs.Read as read
-use Rattle.empty_sectors.specs.declared.Found.{Found}
+use Rattle.emptiness.specs.declared.Found.{Found}
 use Rattle.empty_sectors.specs.declared.Stand.{Stand}
 use Rattle.empty_sectors.specs.declared.Stand.the-variants.{Going, Stopped, WriteFailed}
-use Rattle.empty_sectors.specs.Listed.{foundIn, lineOf}
+use Rattle.emptiness.specs.Listed.{foundIn, lineOf}
 use Rattle.empty_sectors.specs.Run.{afterLine, Turn, tells, stops, unwritten, begins, goes, Counted, Reached}
 use Rattle.empty_sectors.specs.Inner.Turns.{Sayable, Turned}
 use Rattle.empty_sectors.proofs.Stand as stand

@@ -1,22 +1,14 @@
 // The addresses of a dump's empty Sectors (document 02, §13), from standard input to standard output. What one read means stands in
-// `reading`, every character of a line in `text`.
+// `reading`, which Sector has a line and every character of it in `emptiness`.
 ghost use mathlib.Core.Path.{_≡_};
 ghost use lib.ListN.{length};
-ghost use Rattle.empty_sectors.specs.Listed.{foundIn};
 ghost use Rattle.empty_sectors.specs.Run.{afterLine, Ended};
 ghost use Rattle.empty_sectors.specs.Inner.Turns.{Sayable, Turned};
-use address::HeaderTime;
-use judge::Judged;
+use emptiness::Found;
 use libc::STDERR_FILENO;
 use libc::STDOUT_FILENO;
 use reading::Filled;
 use reading::Read;
-
-// What is found of a Sector: it is empty, with its address, or it is another.
-pub enum Found {
-    Empty(HeaderTime),
-    Other,
-}
 
 // Where the program stands: between two Sectors; ended by a read that brought nothing, with so many bytes of a Sector before it; or ended by
 // a write that failed.
@@ -24,20 +16,6 @@ pub enum Stand {
     Going,
     Stopped(Filled),
     WriteFailed,
-}
-
-// Judging decides: a Sector is empty if it passes with mode 00.
-pub fn find(sector: &[u8]) -> Found
-    ensures { λ r. ⌜ r ≡ foundIn (now (sector .entry)) ⌝ }
-{
-    let judged = judge::judge(sector);
-    let Judged::Passed(mode, time) = judged else {
-        return Found::Other;
-    };
-    if mode == 0 {
-        return Found::Empty(time);
-    }
-    Found::Other
 }
 
 // After a line: the program goes on if all of it went out.
@@ -63,11 +41,11 @@ fn tell(sector: &[u8]) -> Stand
     requires { ⌜ length (now sector) ≡ 2352 ⌝ }
     ensures { λ r. ⌜ Turned r ⌝ }
 {
-    let found = find(sector);
+    let found = emptiness::find(sector);
     let Found::Empty(time) = found else {
         return say(b"");
     };
-    let line = text::address_line(time);
+    let line = emptiness::address_line(time);
     say(&line)
 }
 

@@ -7,7 +7,7 @@ use lib.ListN.{length}
 use Rattle.outcome.specs.Say.{Say, done, refused, oneThenTwo, Outcome, answered}
 use Rattle.entry.specs.declared.Answer.{Answer}
 use Rattle.entry.specs.declared.Answer.the-variants.{Done, WrongIncoming, WrongOutgoing}
-pub mod Ways
+pub mod WaysOut
 
 -- document 01's number for each answer
 abbrev pub sayOf : Answer → Say

@@ -4,5 +4,3 @@ pub mod Batches
 -- what each export promises allows one outcome
 pub mod One
 pub mod Parities
--- document 02, §6
-pub mod NeverEight

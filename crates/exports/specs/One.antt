@@ -1,11 +1,10 @@
--- What each export promises allows one outcome: `told-one` with the law of the entry that it hands over to. The other exports promise an
--- equation for all that they hand back, or name one thing (`Parities`; the inverse of a byte: field, `inverse-of-one`).
+-- What each export promises allows one outcome: `told-one` with the law of the entry that it hands over to, and `said-one` for verdicts and judging. The other
+-- exports promise an equation for all that they hand back, or name one thing (`Parities`; the inverse of a byte: field, `inverse-of-one`).
 -- Assumes nothing.
-use mathlib.Core.Path.{_≡_, refl, sym, ap, _∙_}
+use mathlib.Core.Path.{_≡_, sym, ap, _∙_}
 use mathlib.Core.List.{List}
 use Prim.Native.Nat.{ℕ}
-use Rattle.outcome.specs.Say.{Say, Outcome, outcome}
-use Rattle.calls.specs.Step.{Step, step}
+use Rattle.outcome.specs.Say.{Outcome, outcome}
 use Rattle.address.specs.declared.HeaderTime.{HeaderTime}
 use Rattle.writer.specs.Write.{Writes}
 use Rattle.writer.specs.Write.One.{write-one}
@@ -19,21 +18,10 @@ use Rattle.frame_writer.specs.Framing.{Frames}
 use Rattle.frame_writer.specs.Framing.One.{framing-one}
 use Rattle.carrying.specs.Carry.{Carries}
 use Rattle.carrying.specs.Carry.One.{carry-one}
-use Rattle.captures.specs.Kept.{Restores}
-use Rattle.captures.specs.Kept.One.{restored-one as captures-one}
-use Rattle.section_reader.specs.ReadSay.{ReadOut, readOut}
 use Rattle.told.specs.Told.{Told}
 use Rattle.told.specs.Told.One.{told-one}
 
 module _ {x y : ℕ} {v w : List ℕ} where
-  -- verdicts, and judging
-  pub said-one : (n : ℕ) (o : Say) → Told n (λ say. say ≡ o) x v → Told n (λ say. say ≡ o) y w → (x ≡ y) × (v ≡ w)
-  said-one n o p q = let same = told-one {Same = n ≡ n} (λ a b e f. (e ∙ sym f, refl)) p q in (same .0, same .1)
-
-  -- scrambling, cutting, joining, aligning, finding; keeping and replaying a capture
-  pub left-one : (n : ℕ) (o : Outcome) (s t : List ℕ) → Told n (λ say. outcome say s ≡ o) x v → Told n (λ say. outcome say t ≡ o) y w → (x ≡ y) × (v ≡ w) × (s ≡ t)
-  left-one n o s t = told-one (λ a b e f. (ap (λ (z : Outcome). z .say) (e ∙ sym f), ap (λ (z : Outcome). z .out) (e ∙ sym f)))
-
   -- writing a Sector
   pub written-one : (mode : ℕ) (time : HeaderTime) (user old s t : List ℕ) → Told 0 (λ say. Writes mode time user old say s) x v
       → Told 0 (λ say. Writes mode time user old say t) y w → (x ≡ y) × (v ≡ w) × (s ≡ t)
@@ -49,23 +37,6 @@ module _ {x y : ℕ} {v w : List ℕ} where
       → Told 2 (λ say. Salvages received passes old changed say t m) y w → (x ≡ y) × (v ≡ w) × ((s ≡ t) × (l ≡ m))
   salvaged-one received passes old changed s t l m =
       told-one (λ a b p q. let e = salvages-one received passes old changed p q in (e .says, (e .sector, e .list)))
-
-  -- restoring a capture, with its used length
-  pub restored-one : (l old s t : List ℕ) → Told 1 (λ say. Restores l old say s) x v → Told 1 (λ say. Restores l old say t) y w
-      → (x ≡ y) × (v ≡ w) × (s ≡ t)
-  restored-one l old s t = told-one (λ a b p q. captures-one l old p q)
-
-  -- writing a Section, with the state after it
-  pub step-one : {S : Type 0} (o : Step S) (m n : S) (s t : List ℕ) → Told 0 (λ say. step say m s ≡ o) x v → Told 0 (λ say. step say n t ≡ o) y w
-      → (x ≡ y) × (v ≡ w) × ((m ≡ n) × (s ≡ t))
-  step-one {S} o m n s t =
-      told-one (λ a b e f. (ap (λ (z : Step S). z .say) (e ∙ sym f), (ap (λ (z : Step S). z .next) (e ∙ sym f), ap (λ (z : Step S). z .out) (e ∙ sym f))))
-
-  -- reading a Section, bytes and marks
-  pub read-one : (o : ReadOut) (s t m n : List ℕ) → Told 0 (λ say. readOut say s m ≡ o) x v → Told 0 (λ say. readOut say t n ≡ o) y w
-      → (x ≡ y) × (v ≡ w) × ((s ≡ t) × (m ≡ n))
-  read-one o s t m n =
-      told-one (λ a b e f. (ap (λ (z : ReadOut). z .say) (e ∙ sym f), (ap (λ (z : ReadOut). z .bytes) (e ∙ sym f), ap (λ (z : ReadOut). z .marks) (e ∙ sym f))))
 
   -- Data Frames: reading with the fields, writing, and carrying over
   pub frame-read-one : (frame old s t : List ℕ) → Told 13 (λ say. outcome say s ≡ reading frame old) x v → Told 13 (λ say. outcome say t ≡ reading frame old) y w

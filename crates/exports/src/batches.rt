@@ -7,6 +7,7 @@ ghost use Rattle.exports.specs.Batches.{changedIn, numbersOf, changedOf,
 use batch::Answer;
 use batch::SectorFate;
 use repair::Repaired;
+use told::tell_one;
 
 // The number of what a single repair says.
 fn number(a: Repaired) -> u64
@@ -53,14 +54,10 @@ fn tell_fates(fates: [SectorFate; 16], numbers: &mut [u64; 16], changed: &mut [u
 fn tell(a: Answer, count: &mut [u64; 1]) -> u8
     ensures { λ r. ⌜ Tells 1 (many.sayOf a) r (now (count .exit)) ⌝ }
 {
-    *count = [0];
     match a {
-        Answer::Done(n) => {
-            *count = [n as u64];
-            0
-        }
-        Answer::WrongIncoming => 1,
-        Answer::WrongOutgoing => 2,
+        Answer::Done(n) => tell_one(0, n as u64, count),
+        Answer::WrongIncoming => tell_one(1, 0, count),
+        Answer::WrongOutgoing => tell_one(2, 0, count),
     }
 }
 

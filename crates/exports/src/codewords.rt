@@ -8,23 +8,15 @@ ghost use Rattle.filling.specs.Fill.{Fills};
 ghost use Rattle.told.specs.Told.{Tells, Told};
 ghost use Rattle.exports.specs.Verdicts.{sayOf};
 use codeword::Verdict;
+use told::tell_two;
 
 fn tell(v: Verdict, change: &mut [u64; 2]) -> u8
     ensures { λ r. ⌜ Tells 2 (sayOf v) r (now (change .exit)) ⌝ }
 {
     match v {
-        Verdict::Clean => {
-            *change = [0, 0];
-            0
-        }
-        Verdict::Change(i, b) => {
-            *change = [i as u64, b as u64];
-            1
-        }
-        Verdict::Lost => {
-            *change = [0, 0];
-            2
-        }
+        Verdict::Clean => tell_two(0, 0, 0, change),
+        Verdict::Change(i, b) => tell_two(1, i as u64, b as u64, change),
+        Verdict::Lost => tell_two(2, 0, 0, change),
     }
 }
 
@@ -33,7 +25,7 @@ fn tell(v: Verdict, change: &mut [u64; 2]) -> u8
 pub extern "C" fn road_verdict_of_two(w: &[u8], change: &mut [u64; 2]) -> u8
     ensures { λ r. ⌜ Told 2 (λ say. say ≡ sayOf (verdict 2 (now (w .entry)))) r (now (change .exit)) ⌝ }
 {
-    tell(codeword::verdict_of_two(w), change)
+    tell(verdicts::verdict_of_two(w), change)
 }
 
 // A word of C1 or C2.
@@ -41,7 +33,7 @@ pub extern "C" fn road_verdict_of_two(w: &[u8], change: &mut [u64; 2]) -> u8
 pub extern "C" fn road_verdict_of_four(w: &[u8], change: &mut [u64; 2]) -> u8
     ensures { λ r. ⌜ Told 2 (λ say. say ≡ sayOf (verdict 4 (now (w .entry)))) r (now (change .exit)) ⌝ }
 {
-    tell(generator::verdict_of_four(w), change)
+    tell(quick_verdicts::verdict_of_four(w), change)
 }
 
 // The two bytes of parity behind a word.
@@ -49,7 +41,7 @@ pub extern "C" fn road_verdict_of_four(w: &[u8], change: &mut [u64; 2]) -> u8
 pub extern "C" fn road_parity_of_two(w: &[u8], parity: &mut [u8; 2])
     ensures { λ _. ⌜ Parity 2 (now (parity .exit)) (now (w .entry) ++ now (parity .exit)) ⌝ }
 {
-    let p = codeword::parity_of_two(w);
+    let p = word_parity::parity_of_two(w);
     *parity = [p.0, p.1];
 }
 

@@ -7,19 +7,19 @@ ghost use Rattle.field.specs.Inverse.{InverseOf};
 pub extern "C" fn road_times_alpha(x: u8) -> u8
     ensures { λ r. ⌜ r ≡ timesAlpha x ⌝ }
 {
-    field::times_alpha(x)
+    products::times_alpha(x)
 }
 
 #[no_mangle]
 pub extern "C" fn road_product(a: u8, b: u8) -> u8
     ensures { λ r. ⌜ r ≡ mul a b ⌝ }
 {
-    field::product(a, b)
+    products::product(a, b)
 }
 
 #[no_mangle]
 pub extern "C" fn road_inverse(a: u8) -> u8
     ensures { λ r. ⌜ InverseOf a r ⌝ }
 {
-    field::inverse(a)
+    inverses::inverse(a)
 }

@@ -7,7 +7,7 @@ ghost use Rattle.edc.specs.Edc.{remainder, edc, isZero};
 pub extern "C" fn road_edc_remainder(bytes: &[u8]) -> u32
     ensures { λ r. ⌜ r ≡ numberLowFirst (remainder (bits (now (bytes .entry)))) ⌝ }
 {
-    edc::remainder(bytes)
+    edc_division::remainder(bytes)
 }
 
 // The four bytes of the EDC field.
@@ -15,12 +15,12 @@ pub extern "C" fn road_edc_remainder(bytes: &[u8]) -> u32
 pub extern "C" fn road_edc_parity(bytes: &[u8], field: &mut [u8; 4])
     ensures { λ _. ⌜ now (field .exit) ≡ edc (now (bytes .entry)) ⌝ }
 {
-    *field = edc::parity(bytes);
+    *field = edc_division::parity(bytes);
 }
 
 #[no_mangle]
 pub extern "C" fn road_edc_holds(bytes: &[u8]) -> bool
     ensures { λ r. ⌜ r ≡ isZero (remainder (bits (now (bytes .entry)))) ⌝ }
 {
-    edc::holds(bytes)
+    edc_division::holds(bytes)
 }

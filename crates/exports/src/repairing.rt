@@ -2,20 +2,17 @@
 ghost use Rattle.repair.specs.Repair.{Repairs, sayOf};
 ghost use Rattle.told.specs.Told.{Tells, Told};
 use repair::Repaired;
+use told::tell_one;
 
 // With a Sector that is handed out comes the count of changed bytes.
 fn tell(a: Repaired, changed: &mut [u64; 1]) -> u8
     ensures { λ r. ⌜ Tells 1 (sayOf a) r (now (changed .exit)) ⌝ }
 {
-    *changed = [0];
     match a {
-        Repaired::HandedOut(count) => {
-            *changed = [count as u64];
-            0
-        }
-        Repaired::WrongIncoming => 1,
-        Repaired::WrongOutgoing => 2,
-        Repaired::NoSectorNear => 5,
+        Repaired::HandedOut(count) => tell_one(0, count as u64, changed),
+        Repaired::WrongIncoming => tell_one(1, 0, changed),
+        Repaired::WrongOutgoing => tell_one(2, 0, changed),
+        Repaired::NoSectorNear => tell_one(5, 0, changed),
     }
 }
 

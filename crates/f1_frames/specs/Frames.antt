@@ -6,7 +6,7 @@ use lib.ListN.{getD, take, drop}
 use Rattle.outcome.specs.Say.{Outcome}
 use Rattle.outcome.specs.Table.{tabulated}
 use Rattle.entry.specs.Entry.{answering}
-use Rattle.f1_frames.specs.Exchange.{exchanged, other}
+use Rattle.pair_exchange.specs.Exchange.{exchanged, other}
 pub mod Placed
 
 -- n F1-frames one after the other: consecutive bytes are placed in consecutive frames of 24, then the pairs of each frame exchanged

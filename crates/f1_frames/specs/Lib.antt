@@ -1,3 +1,2 @@
 -- clause 16
-pub mod Exchange
 pub mod Frames

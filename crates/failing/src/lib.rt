@@ -29,7 +29,7 @@ pub fn first_failing(parity: Parity, s: &[u8]) -> usize
             for m in 0..rows {
                 let b = byte_at(s, place_of(parity, n as u8, m as u8));
                 s0 = s0 ^ b;
-                s1 = field::times_alpha(s1) ^ b;
+                s1 = products::times_alpha(s1) ^ b;
             }
             if s0 != 0 {
                 break 'search n;

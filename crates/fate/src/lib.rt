@@ -5,7 +5,7 @@ ghost use Rattle.repair.specs.Repair.{sayOf};
 ghost use Rattle.fate.specs.Fated.{fateFrom};
 use address::HeaderTime;
 use repair::Repaired;
-use text::Fate;
+use tally::Fate;
 
 // The byte at a place, and 0 behind the end.
 fn byte_at(s: &[u8], i: usize) -> u8

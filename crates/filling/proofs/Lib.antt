@@ -1,4 +1,1 @@
-mod Sweep
-mod Zeros
-mod Adding
-mod Look
+mod Filled

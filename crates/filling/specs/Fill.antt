@@ -9,7 +9,7 @@ use lib.Dec.{eqb, leb}
 use lib.ListN.{length}
 use Rattle.codeword.specs.Code.{weight}
 use Rattle.erasures.specs.Agreeing.{agreeing, handedOn}
-pub mod Ways
+pub mod WaysOut
 
 -- whether the word can be filled: it has a mark for each byte, at most 255 bytes, and at most four are marked
 unfoldable pub within : List ℕ → List ℕ → Bool

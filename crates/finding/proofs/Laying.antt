@@ -11,10 +11,10 @@ use lib.Seq.{length-take-le}
 use Rattle.outcome.specs.Buffer.Part.{part-back}
 use Rattle.sector.specs.Layout.{zeros}
 use Rattle.sector.specs.Layout.Zeros.{length-zeros, drop-zeros}
-use Rattle.f1_frames.specs.Exchange.{exchanged, wholeFrames}
-use Rattle.f1_frames.specs.Exchange.Whole.{exchanged-whole}
+use Rattle.pair_exchange.specs.Exchange.{exchanged, wholeFrames}
+use Rattle.pair_exchange.specs.Exchange.Whole.{exchanged-whole}
 use Rattle.alignment.specs.Found.{room, bytesIn, place, wholeFrom, sectorsFrom}
-use Rattle.alignment.specs.Found.Ways.{room-is}
+use Rattle.alignment.specs.Found.WaysOut.{room-is}
 use Rattle.finding.proofs.Standing.{part-in-order}
 
 -- the bytes of the whole Sectors

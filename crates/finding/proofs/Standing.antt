@@ -1,16 +1,20 @@
 -- Sync as it stands in F1-frames: a place begins a pair, so that the twelve bytes there are those of Sync with each pair exchanged.
 -- Assumes nothing.
 use mathlib.Core.Path.{_≡_, sym, ap, subst, _∙_}
-use mathlib.Core.Bool.{Bool, true, false}
+use mathlib.Core.Logic.{_⊎_, inl, inr}
 use mathlib.Core.List.{List}
 use Prim.Native.Nat.{ℕ, _+_, _-_, _*_, _/_, _%_, _≤_, _<_}
 use native.Mathlib.Omega.{arith}
 use lib.ListN.{length, take, drop}
-use Rattle.lists.specs.Same.Equal.{same-is}
+use Rattle.outcome.specs.First.Found.{lt-or-le}
+use Rattle.lists.specs.Same.{same}
+use Rattle.lists.specs.Same.Equal.{same-equal, equal-same, same-is}
 use Rattle.sector.specs.Layout.{sync}
-use Rattle.f1_frames.specs.Exchange.{exchanged}
-use Rattle.f1_frames.specs.Exchange.Pairs.{exchanged-twice, exchanged-part}
+use Rattle.pair_exchange.specs.Exchange.{exchanged}
+use Rattle.pair_exchange.specs.Exchange.Pairs.{exchanged-twice, exchanged-part}
 use Rattle.f1_frames.specs.Frames.Placed.{of-exchanged}
+use Rattle.sync_bytes.specs.SyncAt.{syncAt}
+use Rattle.sync_bytes.specs.SyncAt.TooFew.{too-few}
 use Rattle.alignment.specs.Found.{bytesIn, place, syncStands, nOf, frameOf}
 use Rattle.alignment.specs.Found.First.{past-end, n-there}
 
@@ -28,23 +32,21 @@ part-in-order frames f n j h l =
     ∙ exchanged-part (12 * f + 2 * n) j frames (omega arith)
     ∙ ap (λ (a : ℕ). exchanged (take (2 * j) (drop a frames))) (sym even)
 
-module _ (frames : List ℕ) (f n : ℕ) where
-  pub too-short : length frames < 24 * f + 4 * n + 12 → false ≡ syncStands frames f n
-  too-short h = sym (past-end frames f n h)
+-- so Sync stands in order where it stands exchanged
+pub stands : (frames : List ℕ) (f n : ℕ) → length frames % 24 ≡ 0 → syncAt frames (place f n) ≡ syncStands frames f n
+unfolding syncAt syncStands
+stands frames f n h = by (lt-or-le (length frames) (place f n + 12))
+  where
+    in-frames : List ℕ
+    in-frames = take 12 (drop (place f n) frames)
 
-  abbrev lent : List ℕ
-  lent = take (24 * f + 4 * n + 12 - (24 * f + 4 * n)) (drop (24 * f + 4 * n) frames)
-
-  pub compared : (r : Bool) (right : List ℕ) → length frames % 24 ≡ 0 → 24 * f + 4 * n + 12 ≤ length frames → right ≡ exchanged sync
-      → (r ≡ true → lent ≡ right) × (lent ≡ right → r ≡ true) → r ≡ syncStands frames f n
-  unfolding syncStands
-  compared r right h l e (p, q) =
-      let twelve : 24 * f + 4 * n + 12 - (24 * f + 4 * n) ≡ 12 = omega arith in
-      let is : lent ≡ take 12 (drop (place f n) frames) = ap (λ (m : ℕ). take m (drop (24 * f + 4 * n) frames)) twelve in
-      let there : take 12 (drop (place f n) (bytesIn frames)) ≡ exchanged (take 12 (drop (place f n) frames)) = part-in-order frames f n 6 h (omega arith) in
-      same-is (take 12 (drop (place f n) (bytesIn frames))) sync r
-      (λ t. there ∙ ap exchanged (sym is ∙ p t ∙ e) ∙ exchanged-twice sync)
-      (λ d. q (is ∙ sym (exchanged-twice (take 12 (drop (place f n) frames))) ∙ ap exchanged (sym there ∙ d) ∙ sym e))
+    by : (length frames < place f n + 12) ⊎ (place f n + 12 ≤ length frames) → syncAt frames (place f n) ≡ syncStands frames f n
+    by (inl short) = too-few frames (place f n) short ∙ sym (past-end frames f n short)
+    by (inr l) =
+        let there : take 12 (drop (place f n) (bytesIn frames)) ≡ exchanged in-frames = part-in-order frames f n 6 h l in
+        same-is (take 12 (drop (place f n) (bytesIn frames))) sync (same in-frames (exchanged sync))
+        (λ t. there ∙ ap exchanged (same-equal in-frames (exchanged sync) t) ∙ exchanged-twice sync)
+        (λ d. equal-same in-frames (exchanged sync) (sym (exchanged-twice in-frames) ∙ ap exchanged (sym there ∙ d)))
 
 -- in the frame that is found there is an n
 pub n-found : (frames : List ℕ) (f n : ℕ) → f ≡ frameOf frames → f < length frames / 24 → n ≡ nOf frames f → n < 6

@@ -3,8 +3,6 @@ ghost use mathlib.Core.Path.{_≡_};
 ghost use Prim.Native.Nat.{_+_, _*_, _/_, _%_, _≤_, _<_};
 ghost use lib.ListN.{length};
 ghost use Rattle.outcome.specs.Say.{outcome};
-ghost use Rattle.sector.specs.Layout.{sync};
-ghost use Rattle.f1_frames.specs.Exchange.{exchanged};
 ghost use Rattle.alignment.specs.Found.{place, syncStands, nOf, frameOf, wholeFrom, sectorsFrom, finding};
 ghost use Rattle.finding.specs.FindSay.{sayOf};
 
@@ -77,19 +75,7 @@ fn sync_stands(frames: &[u8], f: usize, n: usize) -> bool
     ensures { λ r. ⌜ r ≡ syncStands (now (frames .entry)) f n ⌝ }
 {
     let p = 24 * f + 4 * n;
-    let end = p + 12;
-    if frames.len() < end {
-        return false;
-    }
-    let right = exchanged_sync();
-    check::same(&frames[p..end], &right)
-}
-
-// The Sync bytes with the bytes of each pair exchanged.
-fn exchanged_sync() -> [u8; 12]
-    ensures { λ r. ⌜ r ≡ exchanged sync ⌝ }
-{
-    [255, 0, 255, 255, 255, 255, 255, 255, 255, 255, 0, 255]
+    sync_bytes::sync_at(frames, p)
 }
 
 // All Sectors that are whole from byte 4n of frame f on, and how many they are.
@@ -102,6 +88,6 @@ fn put_sectors(frames: &[u8], f: usize, n: usize, out: &mut [u8]) -> usize
     let count = (frames.len() - first) / 2352;
     let bytes = 2352 * count;
     let end = first + bytes;
-    f1_frames::exchange_pairs(&frames[first..end], &mut out[0..bytes]);
+    pair_exchange::exchange_pairs(&frames[first..end], &mut out[0..bytes]);
     count
 }

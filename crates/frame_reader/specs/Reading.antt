@@ -11,7 +11,7 @@ use Rattle.frame_edc.specs.FrameEdc.{remainder}
 use Rattle.data_frame.specs.DataFrame.{mainData, unreserved, fieldsOf, values}
 use Rattle.frame_reader.specs.declared.FrameRead.{FrameRead}
 use Rattle.frame_reader.specs.declared.FrameRead.the-variants.{Done, WrongIncoming, WrongOutgoing, WrongIdentification, WrongEdc, ReservedBit}
-pub mod Ways
+pub mod WaysOut
 pub mod Exact
 pub mod Told
 

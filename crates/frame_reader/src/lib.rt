@@ -25,7 +25,7 @@ fn is_identified(frame: &[u8]) -> bool
     requires { ⌜ length (now frame) ≡ 2064 ⌝ }
     ensures { λ r. ⌜ r ≡ isCodeword 2 (take 6 (now (frame .entry))) ⌝ }
 {
-    let s = codeword::two_sums(&frame[..6]);
+    let s = word_sums::two_sums(&frame[..6]);
     if s.1 != 0 {
         return false;
     }

@@ -1,3 +1,3 @@
 pub mod Bits
 pub mod Making
-pub mod Ways
+pub mod WaysOut

@@ -41,7 +41,7 @@ fn front_of(fields: Fields) -> [u8; 12]
     let n = fields.number;
     let c = fields.copyright;
     let id = [information(fields), n.0, n.1, n.2];
-    let p = codeword::parity_of_two(&id);
+    let p = word_parity::parity_of_two(&id);
     [
         id[0],
         id[1],
@@ -63,8 +63,7 @@ fn lay(front: [u8; 12], main: &[u8], frame: &mut [u8])
     requires { ⌜ (length front ≡ 12) × (length (now main) ≡ 2048) × (length (now frame) ≡ 2064) ⌝ }
     ensures { λ _. ⌜ now (frame .exit) ≡ (front ++ now (main .entry)) ++ edc (front ++ now (main .entry)) ⌝ }
 {
-    outcome::copy(&front, &mut frame[0..12]);
-    outcome::copy(main, &mut frame[12..2060]);
+    laying::lay(frame, 0, &front, main);
     let check = frame_edc::parity(&frame[0..2060]);
     outcome::copy(&check, &mut frame[2060..2064]);
 }

@@ -1,43 +1,69 @@
--- What the register says of a word: it is clean where nothing is left, and parity is what is left, moved.
+-- What the register says of a word: it is a codeword where nothing is left, and parity is what is left, moved.
 -- Assumes nothing.
 use mathlib.Core.Path.{_≡_, refl, sym, ap, _∙_, subst}
-use mathlib.Core.Bool.{true}
+use mathlib.Core.Bool.{Bool, true, false}
 use mathlib.Core.List.{List, [], _∷_, _++_}
-use Prim.Native.Nat.{ℕ, _*_, _<_, _≤_}
+use Prim.Native.Nat.{ℕ, _*_, _/_, _%_, _<_}
+use native.Mathlib.Nat.{div-div-eq-div-mul}
 use native.Mathlib.Omega.{arith}
 use lib.Bits.{bitXor, xor-self}
-use lib.Dec.{eqb, eqb→eq}
+use lib.Dec.{eqb}
 use lib.ListN.{length, getD, take, drop, length-take, length-drop, take-append-drop}
 use lib.Seq.{drop-drop}
-use borrow.Author.Tests.{le-ltb}
+use borrow.Author.Tests.{eq-eqb, ne-eqb}
 use Rattle.outcome.specs.Bytes.{Bytes}
 use Rattle.outcome.specs.Bytes.Kept.{bytes-take, bytes-drop}
-use Rattle.outcome.specs.Table.Entries.{of-true}
 use Rattle.xor.specs.Added.{added}
 use Rattle.xor.specs.Added.Places.{length-added, bytes-added}
 use Rattle.field.specs.Field.{power, mul}
 use Rattle.codeword.specs.Code.{sum, Codeword}
 use Rattle.codeword.specs.Code.Sums.{sum-lt, sum-append}
-use Rattle.codeword.specs.Code.Distance.{sum-zeros}
-use Rattle.codeword.specs.Code.NearOne.{test-of-code}
-use Rattle.codeword.specs.Nearest.{verdict}
+use Rattle.codeword.specs.Code.Changes.{weight-le}
+use Rattle.codeword.specs.Code.Distance.{sum-zeros, distance}
+use Rattle.codeword.specs.Code.NearOne.{code-of-test, test-of-code}
+use Rattle.codeword.specs.Nearest.{isCodeword}
 use Rattle.codeword.specs.Parity.{Parity}
 use Rattle.codeword.specs.Parity.One.{parity-added, power-back}
-use Rattle.codeword.specs.declared.Verdict.the-variants.{Clean}
-use Rattle.generator.specs.Inner.Register.{fourOf, entries, Left}
-use Rattle.generator.specs.Inner.Rows.{rows, upward, downward}
-use Rattle.generator.proofs.Digits.{bytes-fourOf}
-use Rattle.generator.proofs.Entries.{upward-powers, downward-powers, moves}
-use Rattle.generator.proofs.Divided.{four-at}
+use Rattle.four_bytes.specs.FourBytes.{fourOf}
+use Rattle.four_bytes.specs.FourBytes.Back.{bytes-fourOf, four-at}
+use Rattle.generator_rows.specs.Register.{entries, Left}
+use Rattle.generator_rows.specs.Rows.{rows, upward, downward}
+use Rattle.generator_rows.specs.Rows.Entries.{upward-powers, downward-powers, moves}
 
 -- ---- nothing is left
 
-pub clean : (w : List ℕ) (r : ℕ) → length w ≤ 255 → Left w r → eqb r 0 ≡ true → verdict 4 w ≡ Clean
-unfolding verdict
-clean w r k left e = rw (le-ltb 255 (length w) k, test-of-code 4 w code)
+no-digit : (n : ℕ) → n % 256 ≡ 0 → n / 256 ≡ 0 → n ≡ 0
+no-digit n p q = omega arith
+
+last-digit : (n : ℕ) → n < 4294967296 → n / 16777216 % 256 ≡ 0 → n / 16777216 ≡ 0
+last-digit n h p = omega arith
+
+-- four bytes whose sums are 0 are 0
+none-left : (n : ℕ) → n < 4294967296 → Codeword 4 (fourOf n) → n ≡ 0
+none-left n h c = digits (distance 4 (fourOf n) (bytes-fourOf n) (omega arith) (weight-le (fourOf n)) c)
   where
-    code : Codeword 4 w
-    code j h = sym (left j h) ∙ ap (λ (n : ℕ). sum j (fourOf n)) (eqb→eq r 0 (of-true (eqb r 0) e)) ∙ sum-zeros j 4
+    digits : fourOf n ≡ 0 ∷ 0 ∷ 0 ∷ 0 ∷ [] → n ≡ 0
+    digits e =
+        no-digit n (ap (λ (l : List ℕ). getD l 0 0) e)
+        (no-digit (n / 256) (ap (λ (l : List ℕ). getD l 1 0) e)
+        (div-div-eq-div-mul n 256 256
+        ∙ no-digit (n / 65536) (ap (λ (l : List ℕ). getD l 2 0) e)
+        (div-div-eq-div-mul n 65536 256 ∙ last-digit n h (ap (λ (l : List ℕ). getD l 3 0) e))))
+
+pub nothing-left : (w : List ℕ) (r : ℕ) → r < 4294967296 → Left w r → eqb r 0 ≡ isCodeword 4 w
+nothing-left w r h left = go (isCodeword 4 w) refl
+  where
+    code : r ≡ 0 → Codeword 4 w
+    code z j k = sym (left j k) ∙ ap (λ (n : ℕ). sum j (fourOf n)) z ∙ sum-zeros j 4
+
+    go : (b : Bool) → isCodeword 4 w ≡ b → eqb r 0 ≡ b
+    go true e = eq-eqb r 0 (none-left r h (λ j k. left j k ∙ code-of-test 4 w e j k))
+    go false e =
+        ne-eqb r 0
+        (λ z.
+        let t : isCodeword 4 w ≡ true = test-of-code 4 w (code z) in
+        let y : _≡_ {A = ℕ} 0 1 = cc in
+        omega arith)
 
 -- ---- parity from what is left of a word
 

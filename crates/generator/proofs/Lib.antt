@@ -1,4 +1,2 @@
-pub mod Digits
-pub mod Entries
 pub mod Divided
 pub mod Answers

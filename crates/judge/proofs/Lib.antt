@@ -1,2 +1,2 @@
 -- the ways out
-pub mod Ways
+pub mod WaysOut

@@ -23,7 +23,7 @@ fn judge_mode01(s: &[u8], time: HeaderTime) -> Judged
     requires { ⌜ (length (now s) ≡ 2352) × (time ≡ timeOf (now s)) ⌝ }
     ensures { λ r. ⌜ sayOf r ≡ judgingMode01 (now (s .entry)) ⌝ }
 {
-    if !edc::holds(&s[..2068]) {
+    if !edc_division::holds(&s[..2068]) {
         return Judged::WrongEdc;
     }
     if !sector::intermediate_right(s) {

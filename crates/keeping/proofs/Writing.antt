@@ -16,7 +16,8 @@ use Rattle.captures.specs.Number.{shortest}
 use Rattle.captures.specs.Kept.{written, runList, filled, keeping}
 use Rattle.captures.specs.Kept.One.{some-bytes}
 use Rattle.captures.specs.Kept.Filled.{length-filled, wiped-length, filled-more, kept-from-0}
-use Rattle.keeping.specs.Inner.Put.{Puts}
+use Rattle.number_groups.specs.Put.{Puts}
+use Rattle.number_groups.specs.Put.There.{PutThere, there}
 use Rattle.keeping.specs.Inner.Wrote.{Ready, Wrote}
 
 -- the numbers of counts after one with count a
@@ -39,13 +40,14 @@ module _ {capture list : List ℕ} {last used i : ℕ} (short : length capture �
   pub writing-long : length list ≡ 98304
   writing-long = ap length (w .is) ∙ length-filled 98304 (w .front) (omega (arith, w .room, w .upto, w .count))
 
-  pub writing-room : i < length capture / 2 → used + 3 ≤ length list
+  writing-room : i < length capture / 2 → used + 3 ≤ length list
   writing-room h = omega (arith, w .room, writing-long)
 
   pub writing-more : (count d next : ℕ) (new : List ℕ) → i < length capture / 2 → count ≡ getD (countsOf capture) i 0
       → d ≡ distance last count → Puts used d list next new → Writing capture new count next (i + 1)
   unfolding numbersFrom distances written
-  writing-more count d next new h e f p =
+  writing-more count d next new h e f q =
+      let p : PutThere used d list next new = there (writing-room h) q in
       let l : i < length (countsOf capture) = omega (arith, length-counts capture) in
       record {
         upto = omega arith;

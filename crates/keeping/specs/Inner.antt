@@ -1,4 +1,3 @@
 -- Contracts of private functions.
 -- Assumes nothing.
-pub mod Put
 pub mod Wrote

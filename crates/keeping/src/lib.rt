@@ -1,37 +1,16 @@
 // A capture kept as a list of run lengths (document 02, §5).
 ghost use mathlib.Core.Path.{_≡_};
-ghost use Prim.Native.Nat.{_+_, _≤_};
-ghost use lib.ListN.{length};
 ghost use Rattle.outcome.specs.Say.{outcome};
 ghost use Rattle.captures.specs.Kept.{keeping};
 ghost use Rattle.keeping.specs.Answers.{sayOf};
-ghost use Rattle.keeping.specs.Inner.Put.{Puts};
 ghost use Rattle.keeping.specs.Inner.Wrote.{Ready, Wrote};
+use number_groups::put_number;
 
 // What keeping a capture answers: the used length of the list, or a refusal.
 pub enum Listed {
     Done(usize),
     WrongIncoming,
     WrongOutgoing,
-}
-
-// The number n in its shortest form, from place `used` on; the answer is the place behind it.
-fn put_number(list: &mut [u8], used: usize, n: u16) -> usize
-    requires { ⌜ used + 3 ≤ length (now list) ⌝ }
-    ensures { λ r. ⌜ Puts used n (now (list .entry)) r (now (list .exit)) ⌝ }
-{
-    if n < 128 {
-        list[used] = n as u8;
-        return used + 1;
-    }
-    list[used] = (128 + n % 128) as u8;
-    if n < 16384 {
-        list[used + 1] = (n / 128) as u8;
-        return used + 2;
-    }
-    list[used + 1] = (128 + n / 128 % 128) as u8;
-    list[used + 2] = (n / 16384) as u8;
-    used + 3
 }
 
 // The runs of a right capture, put into a list of zeros; the answer is the used length. The first count is its own distance from 0.

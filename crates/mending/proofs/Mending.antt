@@ -1,7 +1,6 @@
 -- A codeword mended in place: what its fault does to it and to the other codewords of its parity.
 -- Assumes nothing.
 use mathlib.Core.Path.{_≡_, refl, sym, ap, _∙_}
-use mathlib.Core.Bool.{Bool}
 use mathlib.Core.List.{List, [], _∷_}
 use Prim.Native.Nat.{ℕ, _<_}
 use native.Mathlib.Decide.{ℕ-discrete}
@@ -11,7 +10,7 @@ use lib.Seq.{ext-getD, getD-set-same, getD-set-other}
 use Rattle.codeword.specs.Code.{sum, sums}
 use Rattle.codeword.specs.Nearest.{nearest, mended}
 use Rattle.codeword.specs.Fault.{fault, cure}
-use Rattle.codeword.specs.Fault.Decides.{nearest-by-sums, fault-inside}
+use Rattle.codeword.specs.Fault.Decides.{nearest-by-sums}
 use Rattle.codeword.specs.declared.Fault.{Fault}
 use Rattle.codeword.specs.declared.Fault.the-variants.{Clean, At, Lost}
 use Rattle.rspc.specs.declared.Parity.{Parity}
@@ -19,7 +18,7 @@ use Rattle.rspc.specs.Either.{wordsOf, rowsOf, wordOf, placeOf}
 use Rattle.rspc.specs.Either.Where.{homeOf, rowIn, place-to, home-of, row-in}
 use Rattle.rspc.specs.Either.Bytewise.{end-le, word-long, word-at}
 use Rattle.rspc.specs.Pass.{foundOr, isFound, handedOn}
-use Rattle.mending.specs.Inner.Mend.{explained, mendedAt}
+use Rattle.word_mending.specs.Mend.{explained}
 
 -- ---- one byte of one word set
 
@@ -78,17 +77,3 @@ pub handed-by-fault : (parity : Parity) (s : List ℕ) (n : ℕ) → handedOn (w
 handed-by-fault parity s n =
     ap (foundOr (wordOf parity s n)) (nearest-by-sums 2 (wordOf parity s n) (omega arith))
     ∙ ap (λ (k : ℕ). cured (wordOf parity s n) (fault (sums 2 (wordOf parity s n)) k)) (word-long parity s n)
-
--- ---- what is done with a fault
-
-module _ (parity : Parity) (x y : ℕ) {rows : ℕ} {f : Fault} (is-rows : rows ≡ rowsOf parity) (is : f ≡ fault (x ∷ y ∷ []) rows) where
-  -- its place is inside the codeword
-  pub fault-row : (i e : ℕ) → f ≡ At i e → i < rowsOf parity
-  fault-row i e q = fault-inside (x ∷ y ∷ []) (rowsOf parity) i e (ap (fault (x ∷ y ∷ [])) (sym is-rows) ∙ sym is ∙ q)
-
-  -- each way out of `mend` is one of its cases
-  pub mends : (s : List ℕ) (n : ℕ) (g : Fault) {r : Bool} {t : List ℕ} → f ≡ g → r ≡ explained g → t ≡ mendedAt parity s n g
-      → (r ≡ explained (fault (x ∷ y ∷ []) (rowsOf parity))) × (t ≡ mendedAt parity s n (fault (x ∷ y ∷ []) (rowsOf parity)))
-  mends s n g q p t =
-      let e : g ≡ fault (x ∷ y ∷ []) (rowsOf parity) = sym q ∙ is ∙ ap (fault (x ∷ y ∷ [])) is-rows in
-      (p ∙ ap explained e, t ∙ ap (mendedAt parity s n) e)

@@ -25,7 +25,8 @@ use Rattle.rspc.specs.Either.Bytewise.{word-at}
 use Rattle.rspc.specs.Columns.{columnOf, inColumn}
 use Rattle.rspc.specs.Columns.Turned.{in-column-lt, column-of-word}
 use Rattle.rspc.specs.Pass.{isFound, handedOn}
-use Rattle.mending.specs.Inner.Mend.{explained, mendedAt, SumsOf}
+use Rattle.word_mending.specs.Mend.{explained, mendedAt}
+use Rattle.mending.specs.Inner.Mend.{SumsOf}
 use Rattle.mending.proofs.Mending.{set-word, set-other, faultOf, cured, found-by-fault, handed-by-fault}
 
 -- the codeword in column k

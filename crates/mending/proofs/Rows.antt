@@ -1,19 +1,15 @@
 -- The codewords of a parity as the columns of rows, and what a sweep over the rows makes: bytes 12 to 2,247 of a Sector as 26 rows of 86
 -- bytes for P, the gathered rows with bytes 2,248 to 2,351 behind them as 45 rows of 52 bytes for Q.
 -- Assumes nothing.
-use mathlib.Core.Path.{_≡_, sym, ap, ap₂, _∙_}
-use mathlib.Core.Bool.{Bool, cond}
+use mathlib.Core.Path.{_≡_, sym, ap, _∙_}
+use mathlib.Core.Bool.{Bool}
 use mathlib.Core.Logic.{_⊎_, inl, inr}
 use mathlib.Core.List.{List, _++_}
 use Prim.Native.Nat.{ℕ, _+_, _-_, _*_, _/_, _%_, _<_, _≤_}
 use native.Mathlib.Omega.{arith}
-use borrow.Rule.Slice.PartMut.{putMid}
-use lib.Dec.{eqb}
 use lib.ListN.{length, getD, take, drop, length-append, length-take, length-drop, List·getD-append}
-use lib.Seq.{ext-getD, getD-take, getD-drop, getD-append-add, length-take-le, take-at, take-all}
+use lib.Seq.{ext-getD, getD-take, getD-drop, getD-append-add}
 use Rattle.outcome.specs.First.Found.{lt-or-le}
-use Rattle.outcome.specs.Buffer.Part.{end-back}
-use Rattle.outcome.specs.Buffer.Lengths.{same-lengths}
 use Rattle.codeword.specs.Code.{sum}
 use Rattle.sweep.specs.Columns.{column, columnSums, allSums, Swept}
 use Rattle.sweep.specs.Columns.Fit.{swept-0, swept-1}
@@ -26,8 +22,8 @@ use Rattle.rspc.specs.Either.{wordsOf, rowsOf, wordOf, placeOf}
 use Rattle.rspc.specs.Either.Bytewise.{word-long, word-at}
 use Rattle.rspc.specs.Columns.{inColumn, qColumn}
 use Rattle.rspc.specs.Columns.Turned.{in-column-lt, column-of-word}
-use Rattle.gathering.specs.Rows.{qRows, Gathered}
-use Rattle.gathering.specs.Rows.Columns.{length-rows, front-at, gathered}
+use Rattle.gathering.specs.Rows.{qRows}
+use Rattle.gathering.specs.Rows.Columns.{length-rows, front-at}
 use Rattle.mending.specs.Inner.Mend.{SumsOf}
 
 -- the columns of the rows are the codewords of s
@@ -98,36 +94,3 @@ q-rows s e = record { count = ap (λ (m : ℕ). m / 52) long; at = λ k m h l. a
         let there : 2248 + (52 * (m - 43) + k) ≡ qPlace (inColumn Q k) m = omega (arith, q-parity (inColumn Q k % 26) m b) in
         ap (λ (i : ℕ). getD (qRows s ++ drop 2248 s) i 0) behind ∙ getD-append-add (qRows s) (drop 2248 s) (52 * (m - 43) + k) 0
         ∙ getD-drop 2248 s (52 * (m - 43) + k) 0 ∙ ap (λ (i : ℕ). getD s i 0) there
-
--- ---- the gathered rows with the parity copied behind them
-
-module _ (s rows x y : List ℕ) (r k : Bool) (ls : length s ≡ 2352) (lr : length rows ≡ 2340) (g : Gathered s (take 2236 rows) r x) where
-  is-rows : x ≡ qRows s
-  is-rows = gathered ls (length-take-le 2236 rows (omega arith)) g
-
-  long-x : length x ≡ 2236
-  long-x = ap length is-rows ∙ length-rows s
-
-  long-all : length (x ++ drop 2236 rows) ≡ 2340
-  long-all = omega (arith, length-append x (drop 2236 rows), length-drop 2236 rows, long-x)
-
-  pub laid-rows : (k ≡ eqb (length (take (length s - 2248) (drop 2248 s))) (length (take (length (x ++ drop 2236 rows) - 2236) (drop 2236 (x ++ drop 2236 rows)))))
-      × (y ≡ cond k (take (length s - 2248) (drop 2248 s)) (take (length (x ++ drop 2236 rows) - 2236) (drop 2236 (x ++ drop 2236 rows))))
-      → putMid 2236 (length (x ++ drop 2236 rows) - 2236) (x ++ drop 2236 rows) y ≡ qRows s ++ drop 2248 s
-  laid-rows c =
-      end-back 2236 (x ++ drop 2236 rows) y (omega (arith, long-all))
-      ∙ ap₂ (λ (a b : List ℕ). a ++ b) (take-at x (drop 2236 rows) 2236 long-x ∙ is-rows) (same-lengths k _ _ y _ _ c lengths ∙ whole)
-    where
-      lengths : length (take (length s - 2248) (drop 2248 s)) ≡ length (take (length (x ++ drop 2236 rows) - 2236) (drop 2236 (x ++ drop 2236 rows)))
-      lengths =
-          omega (
-            arith,
-            long-all,
-            length-take (length s - 2248) (drop 2248 s),
-            length-drop 2248 s,
-            length-take (length (x ++ drop 2236 rows) - 2236) (drop 2236 (x ++ drop 2236 rows)),
-            length-drop 2236 (x ++ drop 2236 rows),
-          )
-
-      whole : take (length s - 2248) (drop 2248 s) ≡ drop 2248 s
-      whole = take-all (length s - 2248) (drop 2248 s) (omega (arith, length-drop 2248 s))

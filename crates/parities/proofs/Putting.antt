@@ -9,6 +9,8 @@ use lib.ListN.{length, getD, take, drop, length-take, length-drop, length-append
 use lib.Seq.{getD-take, getD-drop, getD-append-add}
 use Rattle.lists.specs.Laid.{Laid}
 use Rattle.lists.specs.Agree.{same-take, same-drop}
+use Rattle.laying.specs.Both.{Lays}
+use Rattle.laying.specs.Both.Copied.{laid-in}
 use Rattle.codeword.specs.Code.{Codeword}
 use Rattle.sweep.specs.Columns.Sums.{length-column, column-at}
 use Rattle.rspc.specs.Words.{pPlace, qPlace, pWord, qWord, PCodewords, QCodewords}
@@ -92,8 +94,9 @@ p-put s p q t e c b =
 pub p-other : (s : List ℕ) → (length s ≡ 2352 → ⊥) → PutP s false s
 p-other s n = of-other n
 
-pub p-putting : (s p q t : List ℕ) → length s ≡ 2352 → ParityRows 86 (take 2064 (drop 12 s)) p q → Laid 2076 (p ++ q) s t → PutP s true t
-p-putting s p q t e c b = of-sector e (refl, p-put s p q t e c b)
+pub p-putting : (s p q t : List ℕ) (r : Bool) → length s ≡ 2352 → ParityRows 86 (take 2064 (drop 12 s)) p q
+    → Lays 2076 p q s r t → PutP s true t
+p-putting s p q t r e c b = of-sector e (refl, p-put s p q t e c (laid-in 2076 p q s (omega (arith, c .long-p, c .long-q)) b))
 
 -- ---- Q
 
@@ -117,6 +120,8 @@ q-put s p q t e c b = record { long = b .long; before = same-take 2248 t s (b .l
 pub q-other : (s : List ℕ) → (length s ≡ 2352 → ⊥) → PutQ s false s
 q-other s n = of-other n
 
-pub q-putting : (s old rows p q t : List ℕ) (r : Bool) → length s ≡ 2352 → length old ≡ 2236 → Gathered s old r rows → ParityRows 52 rows p q
-    → Laid 2248 (p ++ q) s t → PutQ s true t
-q-putting s old rows p q t r e f g c b = of-sector e (refl, q-put s p q t e (subst (λ (l : List ℕ). ParityRows 52 l p q) (gathered e f g) c) b)
+pub q-putting : (s old rows p q t : List ℕ) (r l : Bool) → length s ≡ 2352 → length old ≡ 2236 → Gathered s old r rows → ParityRows 52 rows p q
+    → Lays 2248 p q s l t → PutQ s true t
+q-putting s old rows p q t r l e f g c b =
+    of-sector e
+    (refl, q-put s p q t e (subst (λ (l : List ℕ). ParityRows 52 l p q) (gathered e f g) c) (laid-in 2248 p q s (omega (arith, c .long-p, c .long-q)) b))

@@ -1,14 +1,12 @@
 // Parity of P and Q put into a Sector (Annex A). The codewords stand side by side in rows, so their sums are made in one sweep over
 // the rows.
 ghost use mathlib.Core.Path.{_≡_};
-ghost use mathlib.Core.List.{_++_};
-ghost use Prim.Native.Nat.{_+_, _<_, _≤_};
+ghost use Prim.Native.Nat.{_<_};
 ghost use lib.ListN.{length};
-ghost use Rattle.lists.specs.Laid.{Laid};
 ghost use Rattle.parities.specs.Inner.ParityRows.{ParityRows};
 ghost use Rattle.rspc.specs.Put.{PutP, PutQ};
-use codeword::parity_from_sums;
-use outcome::copy;
+use laying::lay;
+use word_parity::parity_from_sums;
 
 // The two rows that make a codeword of each column of `rows`: their sums come first, and each pair of sums becomes parity.
 fn parity_rows(rows: &[u8], p0: &mut [u8], p1: &mut [u8])
@@ -23,17 +21,6 @@ fn parity_rows(rows: &[u8], p0: &mut [u8], p1: &mut [u8])
         p1[k] = p.1;
         k += 1;
     }
-}
-
-// The rows `p0` and `p1` one behind the other in `s`, from byte `at` on.
-fn lay(s: &mut [u8], at: usize, p0: &[u8], p1: &[u8])
-    requires { ⌜ at + length (now p0) + length (now p1) ≤ length (now s) ⌝ }
-    ensures { λ _. ⌜ Laid at (now (p0 .entry) ++ now (p1 .entry)) (now (s .entry)) (now (s .exit)) ⌝ }
-{
-    let middle = at + p0.len();
-    let end = middle + p1.len();
-    copy(p0, &mut s[at..middle]);
-    copy(p1, &mut s[middle..end]);
 }
 
 // The P parity, bytes 2,076 to 2,247, is put right and the answer is true. Where there are not 2,352 bytes nothing changes and the

@@ -23,9 +23,10 @@ use Rattle.sector.specs.Layout.{bytesFrom, timeOf, modeOf, zeros}
 use Rattle.lists.specs.Same.{same}
 use Rattle.lists.specs.Same.Equal.{same-equal, equal-same}
 use Rattle.sector.specs.Correct.Whole.{whole}
+use Rattle.candidates.specs.Candidate.{Candidate}
+use Rattle.mode01_rules.specs.Rules.{rules}
 use Rattle.repair.specs.Repair.{Sought}
 use Rattle.repair.specs.Repair.One.{sought-near}
-use Rattle.repair.specs.Inner.Candidate.{rules, Candidate}
 
 -- the four rules, one by one
 pub record Ruled (s : List ℕ) : Type 0 where

@@ -1,6 +1,4 @@
--- the candidate, the steps that lead to it, and the rules that it must keep
+-- the candidate and the rules that it must keep
 pub mod Candidates
-pub mod Steps
-pub mod Rules
 -- the ways out
-pub mod Ways
+pub mod WaysOut

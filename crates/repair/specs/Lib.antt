@@ -1,4 +1,2 @@
 -- what repair answers and hands out
 pub mod Repair
--- contracts of private functions
-pub mod Inner

@@ -14,9 +14,9 @@ use Rattle.replaying.specs.Replay.{channel}
 use Rattle.replaying.specs.Replay.Sizes.{Legal}
 use Rattle.replaying.specs.Replay.Headers.{channel-one}
 use Rattle.replaying.specs.Replay.Edges.{legal-drop}
-use Rattle.replay.specs.Inner.Runs.{runs, edgeBits, EdgeThere}
-use Rattle.replay.specs.Inner.Frames.{FramesDue, FramesPut}
-use Rattle.replay.proofs.Legality.{runs-long}
+use Rattle.legal_runs.specs.EdgeBits.{runs, edgeBits}
+use Rattle.replay.specs.Inner.Frames.{EdgeThere, FramesDue, FramesPut}
+use Rattle.legal_runs.specs.EdgeBits.There.{runs-long}
 use Rattle.replay.proofs.Front.{front, front-is, front-some, front-zeros, front-next}
 use Rattle.replay.proofs.Packing.{unpack-zeros}
 

@@ -14,8 +14,8 @@ use Rattle.replaying.specs.Replay.{channel}
 use Rattle.replaying.specs.Replay.Sizes.{Legal}
 use Rattle.replaying.specs.Replay.Headers.{run-zero}
 use Rattle.replaying.specs.Replay.Edges.{drop-edge}
-use Rattle.replay.specs.Inner.Runs.{edgeBits}
-use Rattle.replay.proofs.Legality.{bits-there}
+use Rattle.legal_runs.specs.EdgeBits.{edgeBits}
+use Rattle.legal_runs.specs.EdgeBits.There.{bits-there}
 
 -- the bits that the edge in front of these runs takes
 pub front : List ℕ → ℕ

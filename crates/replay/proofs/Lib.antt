@@ -1,7 +1,5 @@
--- the bits of an edge, and the runs that are not legal
-pub mod Legality
--- the edge at which the first Sync Header begins, and the bits from there on
-pub mod Searching
+-- the bits from an edge on
+pub mod Counting
 -- an edge with its ZEROs
 pub mod Front
 -- the bits of the frames, edge by edge
@@ -9,4 +7,4 @@ pub mod Drawing
 -- bits in bytes, and the bytes of frames
 pub mod Packing
 -- the ways out
-pub mod Ways
+pub mod WaysOut

@@ -4,13 +4,10 @@ ghost use Prim.Native.Nat.{_*_, _/_, _<_};
 ghost use lib.ListN.{length, set, drop};
 ghost use Rattle.outcome.specs.Say.{outcome};
 ghost use Rattle.bits.specs.Bits.{unpack};
-ghost use Rattle.merging.specs.Rule.{header, starts};
-ghost use Rattle.replaying.specs.Replay.{channel, firstIllegal, replaying};
+ghost use Rattle.replaying.specs.Replay.{channel, replaying};
 ghost use Rattle.replay.specs.Answers.{sayOf};
-ghost use Rattle.replay.specs.Inner.Runs.{runs, edgeBits, LegalCapture, EdgeThere, ThreeRuns};
-ghost use Rattle.replay.specs.Inner.Begins.{Begins};
-ghost use Rattle.replay.specs.Inner.Frames.{FramesDue, FramesPut};
-use edges::Step;
+ghost use Rattle.legal_runs.specs.EdgeBits.{runs};
+ghost use Rattle.replay.specs.Inner.Frames.{EdgeThere, FramesDue, FramesPut};
 
 // What replaying a capture answers: the used length and the number of frames, or a refusal; with an illegal run comes its index.
 pub enum Replayed {
@@ -21,70 +18,6 @@ pub enum Replayed {
     NoHeader,
 }
 
-// The bits from edge i to the next: the last edge is a bit of its own.
-fn bits_at(capture: &[u8], i: usize) -> usize
-    ensures { λ r. ⌜ r ≡ edgeBits (runs (now (capture .entry))) i ⌝ }
-{
-    let step = edges::run_at(capture, i);
-    let Step::Run(ticks) = step else {
-        return 1;
-    };
-    (ticks as usize + 4) / 8
-}
-
-// The first run that is not legal, or how many runs there are.
-fn first_illegal(capture: &[u8]) -> usize
-    ensures { λ r. ⌜ r ≡ firstIllegal (runs (now (capture .entry))) ⌝ }
-{
-    let mut i: usize = 0;
-    while i + 1 < capture.len() / 2 {
-        let bits = bits_at(capture, i);
-        if bits < 3 {
-            return i;
-        }
-        if 11 < bits {
-            return i;
-        }
-        i += 1;
-    }
-    i
-}
-
-// Where the first Sync Header begins: at an edge, or nowhere.
-enum Start {
-    At(usize),
-    Nowhere,
-}
-
-// A Sync Header begins at an edge from which two runs of 11 bits follow; that a third follows shows its last ZERO.
-fn begins_at(capture: &[u8], k: usize) -> bool
-    requires { ⌜ ThreeRuns (now capture) k ⌝ }
-    ensures { λ r. ⌜ r ≡ starts header (channel (drop k (runs (now (capture .entry))))) ⌝ }
-{
-    if bits_at(capture, k) != 11 {
-        return false;
-    }
-    if bits_at(capture, k + 1) != 11 {
-        return false;
-    }
-    true
-}
-
-fn first_header(capture: &[u8]) -> Start
-    requires { ⌜ LegalCapture (now capture) ⌝ }
-    ensures { λ r. ⌜ Begins (runs (now (capture .entry))) r ⌝ }
-{
-    let mut k: usize = 0;
-    while k + 3 < capture.len() / 2 {
-        let begins = begins_at(capture, k);
-        if begins {
-            return Start::At(k);
-        }
-        k += 1;
-    }
-    Start::Nowhere
-}
-
 // How many whole frames there are from edge k on.
 fn frames_from(capture: &[u8], k: usize) -> usize
     requires { ⌜ EdgeThere (now capture) k ⌝ }
@@ -93,7 +26,7 @@ fn frames_from(capture: &[u8], k: usize) -> usize
     let mut bits: usize = 1;
     let mut j = k;
     while j + 1 < capture.len() / 2 {
-        bits += bits_at(capture, j);
+        bits += legal_runs::bits_at(capture, j);
         j += 1;
     }
     bits / 588
@@ -118,7 +51,7 @@ fn put_frames(capture: &[u8], k: usize, end: usize, out: &mut [u8])
     let mut j = k;
     while q < end {
         put_one(out, q);
-        q += bits_at(capture, j);
+        q += legal_runs::bits_at(capture, j);
         j += 1;
     }
 }
@@ -137,14 +70,14 @@ pub fn replay(capture: &[u8], frames: &mut [u8]) -> Replayed
     if frames.len() != 65536 {
         return Replayed::WrongOutgoing;
     }
-    let illegal = first_illegal(capture);
+    let illegal = legal_runs::first_illegal(capture);
     if illegal + 1 < capture.len() / 2 {
         return Replayed::IllegalRun(illegal);
     }
-    let start = first_header(capture);
-    let Start::At(k) = start else {
+    let k = header_search::header_edge(capture);
+    if capture.len() / 2 <= k + 3 {
         return Replayed::NoHeader;
-    };
+    }
     let n = frames_from(capture, k);
     put_frames(capture, k, 588 * n, frames);
     Replayed::Done((147 * n + 1) / 2, n)

@@ -5,8 +5,8 @@ use mathlib.Core.List.{List, [], _∷_}
 use Prim.Native.Nat.{ℕ}
 use types.Run.{OneOf, miss}
 use denote.Enum.Declared as enum
-use Rattle.text.specs.declared.Counts.{Counts}
-use Rattle.text.specs.Counting.{largest, noneCounted}
+use Rattle.tally.specs.declared.Counts.{Counts}
+use Rattle.tally.specs.Counting.{largest, noneCounted}
 use Rattle.standing.specs.declared.Progress.{Progress}
 use Rattle.standing.specs.declared.Stand.{Stand}
 use Rattle.standing.specs.declared.Stand.the-variants.{Opening, Going, AtEnd, Closing, Done, ReadFailed, WriteFailed}

@@ -8,8 +8,8 @@ use native.Mathlib.Omega.{arith}
 use lib.ListN.{length}
 use Rattle.batch.specs.Sectors.{sectorAt}
 use Rattle.batch.specs.Sectors.Apart.{length-sector}
-use Rattle.text.specs.declared.Counts.{Counts}
-use Rattle.text.specs.Counting.{largest}
+use Rattle.tally.specs.declared.Counts.{Counts}
+use Rattle.tally.specs.Counting.{largest}
 use Rattle.reading.specs.declared.Filled.{Filled}
 use Rattle.reading.specs.declared.Read.{Read}
 use Rattle.reading.specs.declared.Read.the-variants.{Failed, End, More}

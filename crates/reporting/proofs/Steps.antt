@@ -5,10 +5,10 @@ use mathlib.Core.Bool.{Bool, true, false}
 use mathlib.Core.List.{List}
 use Prim.Native.Nat.{ℕ, _≤_}
 use native.Mathlib.Omega.{arith}
-use Rattle.text.specs.declared.Counts.{Counts}
-use Rattle.text.specs.declared.Fate.{Fate}
+use Rattle.tally.specs.declared.Counts.{Counts}
+use Rattle.tally.specs.declared.Fate.{Fate}
 use Rattle.text.specs.declared.Text.{Text}
-use Rattle.text.specs.Counting.{noneCounted, countedWith}
+use Rattle.tally.specs.Counting.{noneCounted, countedWith}
 use Rattle.text.specs.Line.{Holds, written}
 use Rattle.text.specs.Line.More.{holds-written}
 use Rattle.text.specs.Report.{firstLine, fateLine, lastLine}

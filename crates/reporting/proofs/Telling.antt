@@ -22,11 +22,11 @@ use Rattle.batch.specs.Batch.Alone.{when-done}
 use Rattle.batch.proofs.Answer as answer
 use Rattle.repair.specs.Repair as single
 use Rattle.repair.specs.declared.Repaired.the-variants as repaired
-use Rattle.text.specs.declared.Counts.{Counts}
-use Rattle.text.specs.declared.Fate.{Fate}
-use Rattle.text.specs.declared.Fate.the-variants.{Clean, Repaired, Refused}
-use Rattle.text.specs.Counting.{largest, countedWith}
-use Rattle.text.specs.Counting.Room.{one-more}
+use Rattle.tally.specs.declared.Counts.{Counts}
+use Rattle.tally.specs.declared.Fate.{Fate}
+use Rattle.tally.specs.declared.Fate.the-variants.{Clean, Repaired, Refused}
+use Rattle.tally.specs.Counting.{largest, countedWith}
+use Rattle.tally.specs.Counting.Added.{one-more}
 use Rattle.fate.specs.Fated.{fateFrom, Fated}
 use Rattle.fate.specs.Fated.InBatch.{fated-in-batch}
 use Rattle.standing.specs.declared.Progress.{Progress}

@@ -4,9 +4,9 @@ use mathlib.Core.Path.{_≡_}
 use mathlib.Core.List.{List, [], _++_}
 use Prim.Native.Nat.{ℕ, _<_}
 use lib.ListN.{length, take}
-use Rattle.text.specs.declared.Counts.{Counts}
-use Rattle.text.specs.declared.Fate.{Fate}
-use Rattle.text.specs.Counting.{largest, noneCounted, countedWith}
+use Rattle.tally.specs.declared.Counts.{Counts}
+use Rattle.tally.specs.declared.Fate.{Fate}
+use Rattle.tally.specs.Counting.{largest, noneCounted, countedWith}
 use Rattle.text.specs.Report.{firstLine, fateLine, tailLine, lastLine}
 use Rattle.fate.specs.Fated.{Fated}
 use Rattle.standing.specs.declared.Progress.{Progress}

@@ -3,10 +3,10 @@
 mod saying;
 
 ghost use mathlib.Core.Path.{_≡_};
-ghost use Prim.Native.Nat.{_*_, _/_};
+ghost use Prim.Native.Nat.{_*_};
 ghost use lib.ListN.{length};
 ghost use Rattle.reading.specs.Reading.{Fills};
-ghost use Rattle.text.specs.Counting.{largest};
+ghost use Rattle.tally.specs.Counting.{largest};
 ghost use Rattle.standing.specs.Standing.{ahead};
 ghost use Rattle.reporting.specs.Run.{Turning, Reported};
 ghost use Rattle.reporting.specs.Inner.Turn.{Turn};
@@ -15,7 +15,7 @@ use reading::Filled;
 use standing::Progress;
 use standing::Stand;
 use standing::over;
-use text::Counts;
+use tally::Counts;
 
 // Prints the lines of the whole Sectors that came; then the report stands as reading ended.
 fn tell_whole(counts: Counts, filled: Filled, received: &[u8], out: &mut [u8]) -> Progress

@@ -1,7 +1,7 @@
 // Printing. Only `print` writes to standard output, only `say` calls it, and `say` asks that the report has this line where it stands.
 ghost use mathlib.Core.Path.{_≡_};
 ghost use Prim.Native.Nat.{_≤_};
-ghost use Rattle.text.specs.Counting.{largest};
+ghost use Rattle.tally.specs.Counting.{largest};
 ghost use Rattle.text.specs.Line.{written};
 ghost use Rattle.reporting.specs.Run.{Step, Goes, Turning, Reported};
 ghost use Rattle.reporting.specs.Inner.Turn.{Says, counted, Due, Some, sectorsIn, Told};
@@ -9,8 +9,8 @@ use batch::Answer;
 use libc::STDOUT_FILENO;
 use standing::Progress;
 use standing::Stand;
-use text::Counts;
-use text::Fate;
+use tally::Counts;
+use tally::Fate;
 use text::Text;
 
 // Writes a line, and says whether all of it went out.

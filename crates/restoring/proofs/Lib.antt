@@ -1,8 +1,6 @@
--- the number at a place
-pub mod Standing
 -- a count put into the capture
 pub mod Putting
 -- the loop over all numbers
 pub mod Reading
 -- the ways out
-pub mod Ways
+pub mod WaysOut

@@ -11,7 +11,7 @@ use Rattle.captures.specs.Number.Leading.{leading-one, rest-one}
 use Rattle.captures.specs.Kept.{written, captureOf, ListOf, filled}
 use Rattle.captures.specs.Kept.One.{some-bytes}
 use Rattle.captures.specs.Kept.Filled.{length-filled, filled-more, restored-from-0}
-use Rattle.restoring.specs.Inner.Leads.{Stands, NoneStands}
+use Rattle.number_reader.specs.Leads.{Stands, NoneStands}
 use Rattle.restoring.specs.Inner.Count.{Counted}
 use Rattle.restoring.specs.Inner.Read.{Ready, Restored, NoList}
 

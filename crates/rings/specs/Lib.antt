@@ -3,4 +3,4 @@ pub mod Ring
 pub mod Rings
 -- a step of them
 pub mod Swap
-pub mod Section
+pub mod Stage

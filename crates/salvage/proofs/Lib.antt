@@ -1,4 +1,2 @@
--- trials, the search over the passes, and the ways out
-pub mod Trials
-pub mod Searching
-pub mod Ways
+-- the ways out
+pub mod WaysOut

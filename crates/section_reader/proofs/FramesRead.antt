@@ -1,32 +1,18 @@
--- Frame after frame: each fills its part of both buffers, whether it was read or is lost.
+-- Frame after frame: each fills its part of both buffers.
 -- Assumes nothing.
-use mathlib.Core.Path.{_≡_, refl, sym, ap, _∙_, subst}
-use mathlib.Core.Bool.{Bool, true, false}
+use mathlib.Core.Path.{_≡_, sym, _∙_, subst}
 use mathlib.Core.List.{List, _++_}
 use Prim.Native.Nat.{ℕ, _+_, _-_, _*_, _≤_, _<_}
 use native.Mathlib.Omega.{arith}
-use borrow.Rule.Slice.PartMut.{midOf, putMid, put-same, mid-len}
-use lib.ListN.{length, take, drop, replicate}
+use borrow.Rule.Slice.PartMut.{midOf, putMid, mid-len}
+use lib.ListN.{length, take, drop}
 use Rattle.outcome.specs.Buffer.{Filling}
 use Rattle.outcome.specs.Buffer.Filled.{filling-none, filling-part, filling-long, filling-all}
 use Rattle.outcome.specs.Buffer.Part.{part-back}
 use Rattle.bits.specs.Bits.{unpack}
-use Rattle.section_reader.specs.declared.reader.Frame.{Frame}
-use Rattle.section_reader.specs.declared.reader.Frame.the-variants.{Read, NoHeader}
-use Rattle.section_reader.specs.Reading.{headless, bytesRead, marksRead}
-use Rattle.section_reader.specs.Reading.Places.{long-bytes, long-marks}
-use Rattle.section_reader.specs.Reading.Lost.{bytes-lost, marks-lost}
-use Rattle.section_reader.specs.Reading.WordByWord.{bytes-standing, marks-standing}
-use Rattle.section_reader.specs.Inner.Framed.{FrameRead, frameSays, wordBytes, wordMarks}
-
--- what the answer tells of the frame
-told-read : (t : Bool) (r : Frame) → r ≡ frameSays t → r ≡ Read → t ≡ false
-told-read true r p q = cc
-told-read false r p q = refl
-
-told-missed : (t : Bool) (r : Frame) → r ≡ frameSays t → r ≡ NoHeader → t ≡ true
-told-missed true r p q = refl
-told-missed false r p q = cc
+use Rattle.section_reader.specs.Reading.{bytesRead, marksRead}
+use Rattle.section_reader.specs.Reading.Places.{long-bytes, long-marks, bytes-of-frame, marks-of-frame}
+use Rattle.section_reader.specs.Inner.{FrameTaken}
 
 -- f frames of both buffers, which held b and m, are read
 pub record FramesRead (channel b m : List ℕ) (f : ℕ) (bytes marks : List ℕ) : Type 0 where
@@ -80,46 +66,10 @@ module _ {channel b m : List ℕ} {f : ℕ} {bytes marks : List ℕ} (g : Frames
 
   module _ (h : f < 98) where
     -- both buffers with what frame f gives in its places
-    frame-more : (x y : List ℕ) → x ≡ take 33 (drop (33 * f) (bytesRead (unpack channel))) → y ≡ take 33 (drop (33 * f) (marksRead (unpack channel)))
-        → FramesRead channel b m (f + 1) (back f bytes x) (back f marks y)
-    frame-more x y p q =
-        record {
+    pub frames-more : (x y : List ℕ) (n : ℕ) → FrameTaken channel f x y n → FramesRead channel b m n (back f bytes x) (back f marks y)
+    frames-more x y n t =
+        rw (t .next-is) (record {
           upto = omega arith;
-          of-bytes = part-more b (bytesRead (unpack channel)) bytes x f (g .of-bytes) (omega (arith, long-bytes (unpack channel))) p;
-          of-marks = part-more m (marksRead (unpack channel)) marks y f (g .of-marks) (omega (arith, long-marks (unpack channel))) q;
-        }
-
-    module _ {x y : List ℕ} (r : Frame) (a : FrameRead channel f (lent f bytes) (lent f marks) x y r) where
-      -- frame f is read
-      pub frames-read : r ≡ Read → FramesRead channel b m (f + 1) (back f bytes x) (back f marks y)
-      unfolding wordBytes wordMarks
-      frames-read e =
-          let t = told-read (headless (unpack channel) f) r (a .says) e in
-          frame-more x y ((rw t at (a .bytes-are)) ∙ sym (bytes-standing (unpack channel) f t h)) ((rw t at (a .marks-are)) ∙ sym (marks-standing (unpack channel) f t h))
-
-      -- frame f has no Sync Header: both buffers are as they were
-      same-missed : r ≡ NoHeader → (back f bytes x ≡ bytes) × (back f marks y ≡ marks)
-      same-missed e =
-          let t = told-missed (headless (unpack channel) f) r (a .says) e in (
-            ap (back f bytes) (rw t at (a .bytes-are)) ∙ put-same (33 * f) (33 * f + 33 - 33 * f) bytes,
-            ap (back f marks) (rw t at (a .marks-are)) ∙ put-same (33 * f) (33 * f + 33 - 33 * f) marks,
-          )
-
-      pub missed-long : r ≡ NoHeader → (length (back f bytes x) ≡ 3234) × (length (back f marks y) ≡ 3234)
-      missed-long e =
-          let s = same-missed e in
-          (ap length (s .0) ∙ frames-long .0, ap length (s .1) ∙ frames-long .1)
-
-      pub missed-room : r ≡ NoHeader → (length (lent f (back f bytes x)) ≡ 33) × (length (lent f (back f marks y)) ≡ 33)
-      missed-room e =
-          let s = same-missed e in
-          let room = frames-room h in
-          (ap (λ (o : List ℕ). length (lent f o)) (s .0) ∙ room .0, ap (λ (o : List ℕ). length (lent f o)) (s .1) ∙ room .1)
-
-      -- and zeros and marks 4 come into its places
-      pub frames-lost : r ≡ NoHeader → (u v : List ℕ) → u ≡ replicate 33 0 → v ≡ replicate 33 4
-          → FramesRead channel b m (f + 1) (back f (back f bytes x) u) (back f (back f marks y) v)
-      frames-lost e u v p q =
-          let t = told-missed (headless (unpack channel) f) r (a .says) e in
-          let s = same-missed e in
-          rw (s .0, s .1) (frame-more u v (p ∙ sym (bytes-lost (unpack channel) f t h)) (q ∙ sym (marks-lost (unpack channel) f t h)))
+          of-bytes = part-more b (bytesRead (unpack channel)) bytes x f (g .of-bytes) (omega (arith, long-bytes (unpack channel))) (t .bytes-are ∙ bytes-of-frame (unpack channel) f h);
+          of-marks = part-more m (marksRead (unpack channel)) marks y f (g .of-marks) (omega (arith, long-marks (unpack channel))) (t .marks-are ∙ marks-of-frame (unpack channel) f h);
+        })

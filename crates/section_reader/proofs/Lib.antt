@@ -1,5 +1,3 @@
-pub mod Fields
-pub mod Header
-pub mod Framing
+pub mod FrameTaken
 pub mod FramesRead
 pub mod WaysOut

@@ -4,9 +4,8 @@ ghost use lib.ListN.{length};
 ghost use Rattle.bits.specs.Bits.{unpack};
 ghost use Rattle.section_reader.specs.Reading.{bytesRead, marksRead};
 ghost use Rattle.section_reader.specs.ReadSay.{sayOf, readOut, sectionRead};
-use reader::Frame;
-
-mod reader;
+ghost use Rattle.section_reader.specs.Inner.{FrameDue, FrameTaken};
+use channel_frame::Frame;
 
 // What reading a Section answers.
 pub enum SectionRead {
@@ -15,7 +14,26 @@ pub enum SectionRead {
     WrongOutgoing,
 }
 
-// Buffers of the right lengths: frame by frame; one without a Sync Header is lost, and costs no other.
+// Frame f into its places: as it is read, or as lost where it has no Sync Header. A lost one costs no other: either way frame f + 1 is next.
+fn take_frame(
+    channel: &[u8],
+    table: &[u16; 256],
+    guide: &[u8; 1351],
+    f: usize,
+    bytes: &mut [u8],
+    marks: &mut [u8],
+) -> usize
+    requires { ⌜ FrameDue (now channel) (now table) (now guide) f (now bytes) (now marks) ⌝ }
+    ensures { λ r. ⌜ FrameTaken (now (channel .entry)) f (now (bytes .exit)) (now (marks .exit)) r ⌝ }
+{
+    let Frame::Read = channel_frame::read_one(channel, table, guide, f, bytes, marks) else {
+        word_marks::lose_frame(bytes, marks);
+        return f + 1;
+    };
+    f + 1
+}
+
+// Buffers of the right lengths: frame by frame.
 fn read_frames(channel: &[u8], bytes: &mut [u8], marks: &mut [u8])
     requires { ⌜ (length (now channel) ≡ 7203) × (length (now bytes) ≡ 3234) × (length (now marks) ≡ 3234) ⌝ }
     ensures { λ _. ⌜ (now (bytes .exit) ≡ bytesRead (unpack (now (channel .entry)))) × (now (marks .exit) ≡ marksRead (unpack (now (channel .entry)))) ⌝ }
@@ -25,19 +43,14 @@ fn read_frames(channel: &[u8], bytes: &mut [u8], marks: &mut [u8])
     let mut f: usize = 0;
     while f < 98 {
         let at = 33 * f;
-        let Frame::Read = reader::read_frame(
+        f = take_frame(
             channel,
             &table,
             &guide,
             f,
             &mut bytes[at..at + 33],
             &mut marks[at..at + 33],
-        ) else {
-            reader::lose_frame(&mut bytes[at..at + 33], &mut marks[at..at + 33]);
-            f += 1;
-            continue;
-        };
-        f += 1;
+        );
     }
 }
 

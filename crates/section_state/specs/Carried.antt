@@ -4,7 +4,7 @@ use mathlib.Core.Bool.{Bool, cond, _&&_}
 use Prim.Native.Nat.{ℕ, zero, suc, _*_, _^_}
 use lib.Dec.{eqb, leb, ltb}
 use lib.IntN.{ℤ, pos, negsuc, subℕ, natAbs}
-use Rattle.choosing.specs.declared.Tally.{Tally}
+use Rattle.traces.specs.declared.Tally.{Tally}
 pub mod Range
 
 -- a writer writes at most 450,000 Sections

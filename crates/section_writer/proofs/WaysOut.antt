@@ -18,15 +18,16 @@ use Rattle.calls.specs.Step.{Step, step, handedBack}
 use Rattle.bits.specs.Bits.{pack, unpack}
 use Rattle.bits.specs.Bits.Packed.{packed}
 use Rattle.merging.specs.Chosen.{SoFar}
-use Rattle.choosing.specs.declared.Tally.{Tally}
-use Rattle.choosing.specs.Traces.{Within}
+use Rattle.traces.specs.declared.Tally.{Tally}
+use Rattle.traces.specs.Traces.{Within}
 use Rattle.section_state.specs.Carried.{mostSections, possible, beginning, farthest, above, below, levelNow}
 use Rattle.section_state.specs.Carried.Range.{begins}
+use Rattle.section_frames.specs.Frames.{noted, due, FramesDone}
+use Rattle.section_frames.specs.Frames.Due.{within-near, all-due}
+use Rattle.section_frames.specs.Section.{sectionAfter}
 use Rattle.section_writer.specs.declared.SectionStep.{SectionStep}
 use Rattle.section_writer.specs.declared.SectionWriter.{SectionWriter}
 use Rattle.section_writer.specs.declared.SectionWritten.{SectionWritten}
-use Rattle.section_writer.specs.Inner.FrameSteps.{noted, FramesDone}
-use Rattle.section_writer.specs.Section.{sectionAfter}
 use Rattle.section_writer.specs.State.{right, advanced}
 use Rattle.section_writer.specs.WriteSay.{sayOf, section, afterSection, writeSay, written}
 
@@ -96,7 +97,9 @@ module _ (s : SectionWriter) (fits-dsv : SFits w64 (s .dsv)) (fits-level : SFits
   pub begins-as : (t : Tally) → t ≡ beginning (toZ w64 (ofZ w64 (s .dsv))) (toZ w64 (ofZ w64 (s .level))) → t ≡ beginning (s .dsv) (s .level)
   begins-as t p = p ∙ ap₂ beginning (toZ-ofZ w64 (s .dsv) fits-dsv) (toZ-ofZ w64 (s .level) fits-level)
 
--- a Section is written with the tally that a possible state begins with
-pub begins-within : (s : SectionWriter) (t : Tally) → right s ≡ true → t ≡ beginning (s .dsv) (s .level) → Within farthest t
+-- the frames are due with the tally that a possible state begins with
+pub begins-due : (s : SectionWriter) (t : Tally) (frames control out : List ℕ) → length frames ≡ 3136 → length control ≡ 96 → length out ≡ 7203 → right s ≡ true
+    → t ≡ beginning (s .dsv) (s .level) → due t frames control out ≡ true
 unfolding right
-begins-within s t r e = subst (Within farthest) (sym e) (begins (s .dsv) (s .level) (s .sections) r)
+begins-due s t frames control out f k l r e =
+    all-due t frames control out l f k (within-near t (subst (Within farthest) (sym e) (begins (s .dsv) (s .level) (s .sections) r)))

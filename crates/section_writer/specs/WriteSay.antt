@@ -10,10 +10,10 @@ use Rattle.calls.specs.Step.{Step, stepOf}
 use Rattle.bits.specs.Bits.{pack}
 use Rattle.merging.specs.Chosen.{SoFar}
 use Rattle.section_state.specs.Carried.{mostSections, above, below, levelNow}
+use Rattle.section_frames.specs.Section.{sectionAfter}
 use Rattle.section_writer.specs.declared.SectionWriter.{SectionWriter}
 use Rattle.section_writer.specs.declared.SectionWritten.{SectionWritten}
 use Rattle.section_writer.specs.declared.SectionWritten.the-variants.{Done, WrongIncoming, WrongOutgoing, ImpossibleState, DiscFull}
-use Rattle.section_writer.specs.Section.{sectionAfter}
 use Rattle.section_writer.specs.State.{right, advanced}
 pub mod One
 

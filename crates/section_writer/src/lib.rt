@@ -2,16 +2,12 @@
 ghost use mathlib.Core.Path.{_≡_};
 ghost use Prim.Native.Nat.{_<_};
 ghost use Rattle.calls.specs.Step.{step};
-ghost use Rattle.choosing.specs.Traces.{Within};
+ghost use Rattle.traces.specs.Traces.{Within};
 ghost use Rattle.section_state.specs.Carried.{mostSections};
+ghost use Rattle.section_frames.specs.Frames.{sectionEnd};
 ghost use Rattle.section_writer.specs.State.{fresh, advanced};
-ghost use Rattle.section_writer.specs.Inner.FrameSteps.{sectionEnd};
 ghost use Rattle.section_writer.specs.WriteSay.{sayOf, written};
-use choosing::Tally;
-
-mod frame;
-mod pen;
-mod symbols;
+use traces::Tally;
 
 // The state of a Section writer: the DSV and the level after all that it wrote, and how many Sections that were.
 pub struct SectionWriter {
@@ -91,7 +87,7 @@ impl SectionWriter {
         if possible {
             if room {
                 let before = section_state::begin(dsv, level);
-                let after = frame::write_frames(out, before, frames, control);
+                let after = section_frames::write_frames(out, before, frames, control);
                 let next = advance(after, sections);
                 return SectionStep {
                     next: next,

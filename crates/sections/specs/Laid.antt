@@ -9,8 +9,8 @@ use lib.ListN.{getD}
 use Rattle.outcome.specs.Say.{done}
 use Rattle.outcome.specs.Table.{tabulated}
 use Rattle.section_reader.specs.ReadSay.{ReadOut, readOut}
-use Rattle.section_reader.specs.Reading.{fieldAt}
-use Rattle.section_writer.specs.Section.{wordAt}
+use Rattle.fields.specs.Fields.{fieldAt}
+use Rattle.section_frames.specs.Section.{wordAt}
 pub mod Words
 pub mod Fields
 pub mod Frames

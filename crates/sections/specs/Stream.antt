@@ -5,7 +5,7 @@ use Prim.Native.Nat.{ℕ}
 use Rattle.outcome.specs.Bytes.{Bytes}
 use Rattle.merging.specs.Chosen.{SoFar}
 use Rattle.section_writer.specs.declared.SectionWriter.{SectionWriter}
-use Rattle.section_writer.specs.Section.{withFrames}
+use Rattle.section_frames.specs.Section.{withFrames}
 use Rattle.section_state.specs.Carried.{above, below, levelNow}
 use Rattle.section_writer.specs.WriteSay.{section, afterSection}
 pub mod Rules

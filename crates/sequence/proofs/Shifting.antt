@@ -1,11 +1,10 @@
 -- Eight steps of the register at once: what is handed out, and what comes in, as numbers.
 -- Assumes nothing.
-use mathlib.Core.Path.{_≡_, refl, sym, ap, ap₂, _∙_, subst}
-use mathlib.Core.List.{List, [], _∷_}
+use mathlib.Core.Path.{_≡_, refl, sym, ap, ap₂, _∙_}
+use mathlib.Core.List.{List, _∷_}
 use Prim.Native.Nat.{ℕ, zero, suc, _+_, _*_, _/_, _%_, _<_}
 use native.Mathlib.Omega.{arith}
-use lib.Bits.{bitXor, xor-block}
-use lib.ListN.{length, getD, take}
+use lib.Bits.{bitXor}
 use lib.Seq.{ext-getD}
 use Rattle.outcome.specs.Table.{tabulated}
 use Rattle.outcome.specs.Table.Entries.{length-tabulated, tabulated-at, tabulated-from}

@@ -5,7 +5,7 @@ use mathlib.Core.List.{List}
 use Prim.Native.Nat.{ℕ, _+_, _<_}
 use native.Mathlib.Omega.{arith}
 use lib.Bits.{bitXor}
-use lib.ListN.{length, getD, set, take, drop, replicate, List·getD-append}
+use lib.ListN.{getD, set, take, drop, replicate, List·getD-append}
 use lib.Seq.{getD-take, length-take-le}
 use Rattle.outcome.specs.Buffer.{Filling}
 use Rattle.outcome.specs.Buffer.Filled.{filling-more}

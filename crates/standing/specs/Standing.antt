@@ -2,8 +2,8 @@
 -- Assumes nothing.
 use mathlib.Core.Bool.{Bool, true, false, cond}
 use Prim.Native.Nat.{ℕ, _-_, _%_, min}
-use Rattle.text.specs.declared.Counts.{Counts}
-use Rattle.text.specs.Counting.{largest}
+use Rattle.tally.specs.declared.Counts.{Counts}
+use Rattle.tally.specs.Counting.{largest}
 use Rattle.reading.specs.declared.Filled.{Filled}
 use Rattle.reading.specs.declared.Read.{Read}
 use Rattle.reading.specs.declared.Read.the-variants.{Failed, End, More}

@@ -4,7 +4,7 @@ ghost use Prim.Native.Nat.{_*_, _/_};
 ghost use Rattle.standing.specs.Standing.{isOver, ahead, standAfter, afterLine};
 use reading::Filled;
 use reading::Read;
-use text::Counts;
+use tally::Counts;
 
 // How a report stands: before its first line; between two Sectors; at the input's end with so many bytes left over; before its last
 // line; all said; or ended by a read or a write that failed.

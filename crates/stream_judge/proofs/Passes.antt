@@ -10,8 +10,9 @@ use borrow.Author.Tests.{ne-eqb, eq-eqb, le-leb, lt-leb}
 use lib.ListN.{length, getD}
 use lib.Pow.{pow-lt}
 use Rattle.outcome.specs.Say.{done, refused}
-use Rattle.section_reader.specs.Reading.{fieldAt, wordRead}
-use Rattle.section_reader.specs.Reading.Fields.{field-lt}
+use Rattle.fields.specs.Fields.{fieldAt}
+use Rattle.channel_frame.specs.ChannelFrame.{wordRead}
+use Rattle.fields.specs.Fields.Parts.{field-lt}
 use Rattle.stream_rules.specs.Accepted.Exactly.{word-clean}
 use Rattle.stream_rules.specs.Offences.{judged, rightWord}
 use Rattle.stream_rules.specs.Offences.Stream.{binary-judged, length-judged}

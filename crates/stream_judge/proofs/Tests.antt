@@ -1,22 +1,19 @@
--- Each way out of the tests: of a word, of a window, and of 64 bits at once.
+-- Each way out of the tests of a word, and what the tests of a window show together.
 -- Assumes nothing.
-use mathlib.Core.Path.{_≡_, refl, sym, ap, ap₂, _∙_}
-use mathlib.Core.Bool.{Bool, true, false, cond, _&&_}
+use mathlib.Core.Path.{_≡_, refl, sym, ap, _∙_}
+use mathlib.Core.Bool.{Bool, true, false, cond}
 use mathlib.Core.List.{List}
-use Prim.Native.Nat.{ℕ, _-_, _/_, _%_, _^_, _≤_, _<_}
+use Prim.Native.Nat.{ℕ}
 use native.Mathlib.Omega.{arith}
-use borrow.Author.Tests.{ne-eqb, eq-eqb, le-leb, lt-leb}
-use lib.Bits.{bitAnd, bitOr}
-use lib.Dec.{eqb, ltb}
+use lib.Dec.{ltb}
 use Rattle.words.specs.declared.Symbol.{Symbol}
 use Rattle.words.specs.declared.Symbol.the-variants.{Byte, Unknown}
 use Rattle.words.specs.LookUp.{Guide, lookedUp}
 use Rattle.words.specs.LookUp.Finds.{looked-up}
 use Rattle.words.specs.Words.{words, placeOf, byteOf}
-use Rattle.stream_rules.specs.Offences.{listed, rightWord, wordPlace}
+use Rattle.stream_rules.specs.Offences.{listed}
 use Rattle.stream_rules.specs.Judging.{lowest}
 use Rattle.stream_windows.specs.Window.{runIn, headWrong, wordWrong, offenceIn}
-use Rattle.stream_windows.specs.Calm.{tight, ones2, ones4, ones8, ones10, ones11, headless, calm, tripleCalm}
 
 -- ---- a word
 
@@ -43,103 +40,9 @@ module _ (g table : List ℕ) (w : ℕ) (guide : Guide g) (is : table ≡ words)
       go true q = refl
       go false q = differ b (sym q)
 
-module _ (f i w : ℕ) where
-  pub right-other : (t : Bool) → (i ≡ 0 → ⊥) → t ≡ listed w → t ≡ rightWord f i w
-  unfolding rightWord
-  right-other t h e = e ∙ sym (rw (ne-eqb i 0 h))
-
-  pub right-sync0 : i ≡ 0 → f ≡ 0 → eqb w 0b00100000000001 ≡ rightWord f i w
-  unfolding rightWord
-  right-sync0 h j = sym (rw (eq-eqb i 0 h, eq-eqb f 0 j))
-
-  pub right-sync1 : i ≡ 0 → (f ≡ 0 → ⊥) → f ≡ 1 → eqb w 0b00000000010010 ≡ rightWord f i w
-  unfolding rightWord
-  right-sync1 h j k = sym (rw (eq-eqb i 0 h, ne-eqb f 0 j, eq-eqb f 1 k))
-
-  pub right-control : (t : Bool) → i ≡ 0 → (f ≡ 0 → ⊥) → (f ≡ 1 → ⊥) → t ≡ listed w → t ≡ rightWord f i w
-  unfolding rightWord
-  right-control t h j k e = e ∙ sym (rw (eq-eqb i 0 h, ne-eqb f 0 j, ne-eqb f 1 k))
-
 -- ---- a window
 
-module _ (p : ℕ) (x : Bool) where
-  pub place-early : p % 588 < 27 → false ≡ (wordPlace p && x)
-  unfolding wordPlace
-  place-early j = sym (rw (lt-leb 27 (p % 588) j))
-
-  pub place-off : 27 ≤ p % 588 → ((p % 588 - 27) % 17 ≡ 0 → ⊥) → false ≡ (wordPlace p && x)
-  unfolding wordPlace
-  place-off j k = sym (rw (le-leb 27 (p % 588) j, ne-eqb ((p % 588 - 27) % 17) 0 k))
-
-  pub place-on : 27 ≤ p % 588 → (p % 588 - 27) % 17 ≡ 0 → x ≡ (wordPlace p && x)
-  unfolding wordPlace
-  place-on j k = sym (rw (le-leb 27 (p % 588) j, eq-eqb ((p % 588 - 27) % 17) 0 k))
-
 module _ (p v : ℕ) (a b c : Bool) (e : a ≡ runIn v) (f : b ≡ headWrong p v) (g : c ≡ wordWrong p v) where
-  shows : lowest a b c ≡ offenceIn p v
+  pub shows : lowest a b c ≡ offenceIn p v
   unfolding offenceIn
   shows = λ i. lowest (e i) (f i) (g i)
-
-  pub shows-run : a ≡ true → 25 ≡ offenceIn p v
-  shows-run h = ap (λ (t : Bool). lowest t b c) (sym h) ∙ shows
-
-  pub shows-header : a ≡ false → b ≡ true → 26 ≡ offenceIn p v
-  shows-header h j = ap₂ (λ (s t : Bool). lowest s t c) (sym h) (sym j) ∙ shows
-
-  pub shows-word : a ≡ false → b ≡ false → c ≡ true → 27 ≡ offenceIn p v
-  shows-word h j k = (λ i. lowest (sym h i) (sym j i) (sym k i)) ∙ shows
-
-  pub shows-none : a ≡ false → b ≡ false → c ≡ false → 0 ≡ offenceIn p v
-  shows-none h j k = (λ i. lowest (sym h i) (sym j i) (sym k i)) ∙ shows
-
--- ---- 64 bits at once, with the joined numbers as the code has them
-
-abbrev two : ℕ → ℕ
-two w = bitOr w (w / 2 ^ 1)
-
-abbrev four : ℕ → ℕ
-four w = bitOr (two w) (two w / 2 ^ 2)
-
-abbrev eight : ℕ → ℕ
-eight w = bitOr (four w) (four w / 2 ^ 4)
-
-abbrev ten : ℕ → ℕ
-ten w = bitOr (eight w) (two w / 2 ^ 8)
-
-abbrev eleven : ℕ → ℕ
-eleven w = bitOr (eight w) (four w / 2 ^ 7)
-
-module _ (w e : ℕ) where
-  pub calm-tight : (bitAnd w (bitOr (w / 2 ^ 1) (w / 2 ^ 2)) ≡ 0 → ⊥) → false ≡ calm w e
-  unfolding calm tight
-  calm-tight p = sym (rw (ne-eqb (tight w) 0 p))
-
-  pub calm-long : bitAnd w (bitOr (w / 2 ^ 1) (w / 2 ^ 2)) ≡ 0 → (eleven w / 2 ^ 24 % 16777216 ≡ 16777215 → ⊥) → false ≡ calm w e
-  unfolding calm tight ones2 ones4 ones8 ones11
-  calm-long p q = sym (rw (eq-eqb (tight w) 0 p, ne-eqb (ones11 w / 2 ^ 24 % 16777216) 16777215 q))
-
-  pub calm-rest : bitAnd w (bitOr (w / 2 ^ 1) (w / 2 ^ 2)) ≡ 0 → eleven w / 2 ^ 24 % 16777216 ≡ 16777215
-      → eqb (bitOr (ten w) (ten w / 2 ^ 11) / 2 ^ 3 % 16777216) e ≡ calm w e
-  unfolding calm tight ones2 ones4 ones8 ones10 ones11 headless
-  calm-rest p q = sym (rw (eq-eqb (tight w) 0 p, eq-eqb (ones11 w / 2 ^ 24 % 16777216) 16777215 q))
-
-module _ (w u : ℕ) where
-  pub first-lost : u ≡ 0 → (w / 2 ^ 24 % 16777216 ≡ 8392706 → ⊥) → false ≡ tripleCalm w u
-  unfolding tripleCalm
-  first-lost p q = sym (rw (eq-eqb u 0 p, ne-eqb (w / 2 ^ 24 % 16777216) 8392706 q))
-
-  pub first-stands : (t : Bool) → u ≡ 0 → w / 2 ^ 24 % 16777216 ≡ 8392706 → t ≡ calm w 8388607 → t ≡ tripleCalm w u
-  unfolding tripleCalm
-  first-stands t p q e = e ∙ sym (rw (eq-eqb u 0 p, eq-eqb (w / 2 ^ 24 % 16777216) 8392706 q))
-
-  pub middle-lost : (u ≡ 0 → ⊥) → u ≡ 24 → (w / 2 ^ 12 % 16777216 ≡ 8392706 → ⊥) → false ≡ tripleCalm w u
-  unfolding tripleCalm
-  middle-lost n p q = sym (rw (ne-eqb u 0 n, eq-eqb u 24 p, ne-eqb (w / 2 ^ 12 % 16777216) 8392706 q))
-
-  pub middle-stands : (t : Bool) → (u ≡ 0 → ⊥) → u ≡ 24 → w / 2 ^ 12 % 16777216 ≡ 8392706 → t ≡ calm w 16775167 → t ≡ tripleCalm w u
-  unfolding tripleCalm
-  middle-stands t n p q e = e ∙ sym (rw (ne-eqb u 0 n, eq-eqb u 24 p, eq-eqb (w / 2 ^ 12 % 16777216) 8392706 q))
-
-  pub other-calm : (t : Bool) → (u ≡ 0 → ⊥) → (u ≡ 24 → ⊥) → t ≡ calm w 16777215 → t ≡ tripleCalm w u
-  unfolding tripleCalm
-  other-calm t n p e = e ∙ sym (rw (ne-eqb u 0 n, ne-eqb u 24 p))

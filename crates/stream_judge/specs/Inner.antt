@@ -4,7 +4,7 @@ use mathlib.Core.Path.{_≡_}
 use mathlib.Core.Bool.{true, false}
 use mathlib.Core.List.{List}
 use Prim.Native.Nat.{ℕ, _%_, _<_}
-use Rattle.section_reader.specs.Reading.{wordRead}
+use Rattle.channel_frame.specs.ChannelFrame.{wordRead}
 use Rattle.stream_rules.specs.Offences.{judged, rightWord, wordOffends}
 use Rattle.stream_rules.specs.Judging.{offence}
 

@@ -4,7 +4,7 @@ ghost use Prim.Native.Nat.{_*_, _≤_};
 ghost use lib.ListN.{length};
 ghost use Rattle.words.specs.Words.{words};
 ghost use Rattle.words.specs.LookUp.{Guide};
-ghost use Rattle.stream_windows.specs.Window.{runIn, headWrong, wordWrong, offenceIn};
+ghost use Rattle.stream_windows.specs.Window.{wordWrong, offenceIn};
 ghost use Rattle.stream_windows.specs.Window.Found.{Finding};
 ghost use Rattle.stream_judge.specs.Inner.{NoneBefore};
 use crate::bits;
@@ -16,46 +16,14 @@ pub struct Offence {
     pub place: usize,
 }
 
-// A run offends.
-fn run_in(v: u64) -> bool
-    ensures { λ r. ⌜ r ≡ runIn v ⌝ }
-{
-    let h = v / 8388608;
-    if h % 4 == 3 {
-        return true;
-    }
-    if h % 8 == 5 {
-        return true;
-    }
-    h == 2048
-}
-
-// A Sync Header is missing or extra.
-fn head_wrong(v: u64, p: usize) -> bool
-    ensures { λ r. ⌜ r ≡ headWrong p v ⌝ }
-{
-    let w = v % 16777216;
-    if p % 588 == 0 {
-        return w != 0b100000000001000000000010;
-    }
-    w == 0b100000000001000000000010
-}
-
 // A word or SYNC offends.
 fn word_wrong(table: &[u16; 256], guide: &[u8; 1351], p: usize, v: u64) -> bool
     requires { ⌜ (now table ≡ words) × Guide (now guide) ⌝ }
     ensures { λ r. ⌜ r ≡ wordWrong p v ⌝ }
 {
-    let m = p % 588;
-    if m < 27 {
-        return false;
-    }
-    if (m - 27) % 17 != 0 {
-        return false;
-    }
     let w = (v % 16777216 / 1024) as u16;
-    let right = words_listed::is_right_word(table, guide, p / 588 % 98, (m - 27) / 17, w);
-    !right
+    let known = words_listed::is_listed(table, guide, w);
+    offence_tests::is_word_wrong(p, w, known)
 }
 
 // The offence that a window shows.
@@ -63,19 +31,10 @@ fn offence_in(table: &[u16; 256], guide: &[u8; 1351], p: usize, v: u64) -> u64
     requires { ⌜ (now table ≡ words) × Guide (now guide) ⌝ }
     ensures { λ r. ⌜ r ≡ offenceIn p v ⌝ }
 {
-    let run = run_in(v);
-    let head = head_wrong(v, p);
+    let run = stream_windows::run_in(v);
+    let head = stream_windows::head_wrong(v, p);
     let word = word_wrong(table, guide, p, v);
-    if run {
-        return 25;
-    }
-    if head {
-        return 26;
-    }
-    if word {
-        return 27;
-    }
-    0
+    offence_tests::lowest(run, head, word)
 }
 
 // The first offence, where there is none before bit `start`.
@@ -96,7 +55,7 @@ pub(crate) fn search_from(channel: &[u8], n: usize, start: usize) -> Offence
                 place: p,
             };
         }
-        let b = bits::bit_at(channel, p + 40);
+        let b = judged_bits::bit_at(channel, p + 40);
         v = (2 * v + b) % 34359738368;
         p += 1;
     }

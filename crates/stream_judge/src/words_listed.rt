@@ -1,17 +1,16 @@
-// Which words may stand where, and a quick pass for them, frame by frame.
+// Which words are listed, and a quick pass for them, frame by frame.
 ghost use mathlib.Core.Path.{_≡_};
 ghost use mathlib.Core.Bool.{true};
 ghost use Prim.Native.Nat.{_+_, _*_, _≤_};
 ghost use lib.ListN.{length};
 ghost use Rattle.words.specs.Words.{words};
 ghost use Rattle.words.specs.LookUp.{Guide};
-ghost use Rattle.stream_rules.specs.Offences.{listed, rightWord};
+ghost use Rattle.stream_rules.specs.Offences.{listed};
 ghost use Rattle.stream_judge.specs.Inner.{WordsRight, WordsClear};
-use crate::bits;
 use words::Symbol;
 
 // A word of Annex D.
-fn is_listed(table: &[u16; 256], guide: &[u8; 1351], w: u16) -> bool
+pub(crate) fn is_listed(table: &[u16; 256], guide: &[u8; 1351], w: u16) -> bool
     requires { ⌜ (now table ≡ words) × Guide (now guide) ⌝ }
     ensures { λ r. ⌜ r ≡ listed w ⌝ }
 {
@@ -19,29 +18,6 @@ fn is_listed(table: &[u16; 256], guide: &[u8; 1351], w: u16) -> bool
         return false;
     };
     true
-}
-
-// What may stand at place i of frame f of a Section.
-pub(crate) fn is_right_word(
-    table: &[u16; 256],
-    guide: &[u8; 1351],
-    f: usize,
-    i: usize,
-    w: u16,
-) -> bool
-    requires { ⌜ (now table ≡ words) × Guide (now guide) ⌝ }
-    ensures { λ r. ⌜ r ≡ rightWord f i w ⌝ }
-{
-    if i != 0 {
-        return is_listed(table, guide, w);
-    }
-    if f == 0 {
-        return w == 0b00100000000001;
-    }
-    if f == 1 {
-        return w == 0b00000000010010;
-    }
-    is_listed(table, guide, w)
 }
 
 // All words of frame f may stand where they stand.
@@ -52,8 +28,9 @@ fn is_frame_right(channel: &[u8], table: &[u16; 256], guide: &[u8; 1351], f: usi
     let row = f % 98;
     let mut i: usize = 0;
     while i < 33 {
-        let w = bits::word_at(channel, 588 * f + 27 + 17 * i);
-        let right = is_right_word(table, guide, row, i, w);
+        let w = fields::field(channel, 588 * f + 27 + 17 * i, 14) as u16;
+        let known = is_listed(table, guide, w);
+        let right = offence_tests::is_right_word(row, i, w, known);
         if !right {
             return false;
         }

@@ -18,9 +18,12 @@ use Rattle.words.specs.declared.Symbol.the-variants.{Byte, Unknown}
 use Rattle.words.specs.Words.{words, placeOf, byteOf, sync0, sync1}
 use Rattle.words.specs.Words.Different.{sync0-unknown, sync1-unknown}
 use Rattle.merging.specs.Rule.{header}
-use Rattle.section_reader.specs.Reading.{fieldAt, headless, wordRead, markFor, markRead, bytesRead, marksRead}
-use Rattle.section_reader.specs.Reading.Fields.{field-keep, field-past}
-use Rattle.section_reader.specs.Reading.WordByWord.{mark-standing}
+use Rattle.fields.specs.Fields.{fieldAt}
+use Rattle.word_marks.specs.Marks.{markFor}
+use Rattle.channel_frame.specs.ChannelFrame.{headless, wordRead}
+use Rattle.section_reader.specs.Reading.{markRead, bytesRead, marksRead}
+use Rattle.fields.specs.Fields.Parts.{field-keep, field-past}
+use Rattle.channel_frame.specs.ChannelFrame.Standing.{mark-standing}
 use Rattle.section_reader.specs.ReadSay.{readOut, readSay, sectionRead}
 use Rattle.sections.specs.Laid.{laidMark, laidMarks}
 use Rattle.stream_rules.specs.Offences.{judged, listed, rightWord}

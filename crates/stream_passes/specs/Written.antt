@@ -24,10 +24,11 @@ use Rattle.merging.specs.Automaton.{shown}
 use Rattle.merging.specs.Chosen.{SoFar}
 use Rattle.merging.specs.Places.{placed, earlier}
 use Rattle.merging.specs.Rule.{header}
-use Rattle.section_reader.specs.Reading.{fieldAt, wordRead}
-use Rattle.section_reader.specs.Reading.Fields.{field-keep, field-past}
+use Rattle.fields.specs.Fields.{fieldAt}
+use Rattle.channel_frame.specs.ChannelFrame.{wordRead}
+use Rattle.fields.specs.Fields.Parts.{field-keep, field-past}
 use Rattle.section_writer.specs.declared.SectionWriter.{SectionWriter}
-use Rattle.section_writer.specs.Section.{wordAt}
+use Rattle.section_frames.specs.Section.{wordAt}
 use Rattle.section_writer.specs.WriteSay.{section, afterSection}
 use Rattle.sections.specs.Calls.{Call, writes, parts, sectionSteps, outgoing}
 use Rattle.sections.specs.Calls.Streams.{done-as-stream, steps-unpack}

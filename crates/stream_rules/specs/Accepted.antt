@@ -8,7 +8,7 @@ use lib.Dec.{eqb}
 use lib.ListN.{length, drop}
 use Rattle.words.specs.RunRule.{runs}
 use Rattle.merging.specs.Rule.{header, starts}
-use Rattle.section_reader.specs.Reading.{wordRead}
+use Rattle.channel_frame.specs.ChannelFrame.{wordRead}
 use Rattle.stream_rules.specs.Offences.{judged, rightWord}
 use Rattle.stream_rules.specs.Judging.{rightLength}
 pub mod Exactly

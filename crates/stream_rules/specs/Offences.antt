@@ -8,7 +8,7 @@ use lib.ListN.{drop, replicate}
 use Rattle.bits.specs.Bits.{unpack}
 use Rattle.words.specs.Words.{words, placeOf, sync0, sync1}
 use Rattle.merging.specs.Rule.{header, starts}
-use Rattle.section_reader.specs.Reading.{fieldAt}
+use Rattle.fields.specs.Fields.{fieldAt}
 pub mod Stream
 pub mod Runs
 pub mod RunRule

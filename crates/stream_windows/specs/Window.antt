@@ -5,11 +5,10 @@ use mathlib.Core.List.{List, _++_}
 use Prim.Native.Nat.{ℕ, _+_, _-_, _/_, _%_}
 use lib.Dec.{eqb}
 use lib.ListN.{replicate}
-use Rattle.section_reader.specs.Reading.{fieldAt}
+use Rattle.fields.specs.Fields.{fieldAt}
 use Rattle.stream_rules.specs.Offences.{rightWord, wordPlace}
 use Rattle.stream_rules.specs.Judging.{lowest}
 pub mod Lead
-pub mod Bytes
 pub mod Shows
 pub mod Onward
 pub mod Found

@@ -4,8 +4,8 @@ ghost use Prim.Native.Nat.{_<_};
 ghost use lib.ListN.{length};
 ghost use Rattle.sweep.specs.Columns.{Swept, allSums};
 ghost use Rattle.sweep.specs.Inner.Rise.{risen};
-use field::times_alpha;
 use outcome::clear;
+use products::times_alpha;
 
 // Horner's step for each column: its sum so far times α, plus the row's byte.
 fn raise(to: &mut [u8], row: &[u8])

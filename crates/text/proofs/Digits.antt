@@ -4,8 +4,8 @@ use mathlib.Core.Path.{_≡_, sym}
 use mathlib.Core.List.{[], _∷_}
 use Prim.Native.Nat.{ℕ, _/_, _%_, _≤_, _<_}
 use Rattle.text.specs.declared.Text.{Text}
-use Rattle.text.specs.Numerals.{digit, decimal}
-use Rattle.text.specs.Numerals.Decimal.{decimal-one, decimal-more}
+use Rattle.numerals.specs.Numerals.{digit, decimal}
+use Rattle.numerals.specs.Numerals.Decimal.{decimal-one, decimal-more}
 use Rattle.text.specs.Line.{Appended}
 use Rattle.text.specs.Line.More.{and-then, same-text, same-byte}
 

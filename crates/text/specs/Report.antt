@@ -3,12 +3,13 @@
 use mathlib.Core.List.{List, [], _∷_, _++_}
 use Prim.Native.Nat.{ℕ, zero, suc, _+_}
 use Rattle.address.specs.declared.HeaderTime.{HeaderTime}
-use Rattle.text.specs.declared.Fate.{Fate}
-use Rattle.text.specs.declared.Fate.the-variants.{Clean, Repaired, Refused}
+use Rattle.tally.specs.declared.Fate.{Fate}
+use Rattle.tally.specs.declared.Fate.the-variants.{Clean, Repaired, Refused}
 use Rattle.text.specs.Characters.{ascii}
-use Rattle.text.specs.Numerals.{decimal, hex}
+use Rattle.numerals.specs.Numerals.{decimal, hex}
 pub mod Examples
 pub mod Counts
+pub mod Room
 
 -- the first line; the 1 is the report's edition
 abbrev pub firstLine : List ℕ

@@ -1,16 +1,15 @@
-// Every line of the report (document 01, "The report"), and a line with an address alone. The private functions write at the end of a text
-// that has room.
+// Every line of the report (document 01, "The report"). The private functions write at the end of a text that has room.
 ghost use mathlib.Core.Path.{_≡_};
 ghost use mathlib.Core.List.{[], _∷_, _++_};
 ghost use Prim.Native.Nat.{_+_, _≤_, _<_};
 ghost use lib.ListN.{length};
-ghost use Rattle.text.specs.Characters.{ascii};
 ghost use Rattle.text.specs.Line.{Holds, Appended, AppendedWithin};
-ghost use Rattle.text.specs.Numerals.{digit, decimal, hexDigit, hex};
+ghost use Rattle.numerals.specs.Numerals.{digit, decimal, hex};
 ghost use Rattle.text.specs.Report.{firstLine, timeText, fateText, fateLine, tailLine, lastLine};
-use crate::Fate;
 use crate::Text;
 use address::HeaderTime;
+use numerals::hex_digit;
+use tally::Fate;
 
 // A text that says nothing yet.
 fn empty() -> Text
@@ -55,21 +54,6 @@ pub fn last_line(clean: u64, repaired: u64, refused: u64) -> Text
     let second = put_labelled(first, b" repaired ", repaired);
     let third = put_labelled(second, b" refused ", refused);
     put(third, b'\n')
-}
-
-// A line with an address alone (document 02, §13).
-pub fn address_line(time: HeaderTime) -> [u8; 7]
-    ensures { λ r. ⌜ r ≡ timeText time ++ ascii "\n" ⌝ }
-{
-    [
-        hex_digit(time.0 / 16),
-        hex_digit(time.0 % 16),
-        hex_digit(time.1 / 16),
-        hex_digit(time.1 % 16),
-        hex_digit(time.2 / 16),
-        hex_digit(time.2 % 16),
-        b'\n',
-    ]
 }
 
 // A fate's word, and what comes with it.
@@ -151,11 +135,4 @@ fn decimal_digit(d: u64) -> u8
     ensures { λ r. ⌜ r ≡ digit d ⌝ }
 {
     b'0' + d as u8
-}
-
-fn hex_digit(d: u8) -> u8
-    requires { ⌜ d < 16 ⌝ }
-    ensures { λ r. ⌜ r ≡ hexDigit d ⌝ }
-{
-    if d < 10 { b'0' + d } else { b'A' + (d - 10) }
 }

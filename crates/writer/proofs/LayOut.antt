@@ -14,7 +14,8 @@ use Rattle.outcome.specs.Buffer.Part.{part-back}
 use Rattle.address.specs.declared.HeaderTime.{HeaderTime}
 use Rattle.sector.specs.Layout.{zeros}
 use Rattle.sector.specs.Layout.Zeros.{length-zeros, drop-zeros}
-use Rattle.writer.specs.Inner.Laid.{front, laid}
+use Rattle.sector_fields.specs.Front.{front}
+use Rattle.writer.specs.Inner.Laid.{laid}
 
 pub laid-out : (mode : ℕ) (time : HeaderTime) (user : List ℕ) {old p q : List ℕ} → old ≡ zeros 2352 → p ≡ front mode time → q ≡ user
     → putMid 16 (16 + length user - 16) (p ++ drop 16 old) q ≡ laid mode time user

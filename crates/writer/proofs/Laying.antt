@@ -16,9 +16,11 @@ use Rattle.address.specs.declared.HeaderTime.{HeaderTime}
 use Rattle.sector.specs.Layout.{sync, bytesFrom, timeOf, modeOf, userLength, zeros}
 use Rattle.sector.specs.Layout.Zeros.{length-zeros}
 use Rattle.sector.specs.Correct.{Protected}
-use Rattle.writer.specs.Write.{Asked, isWritten}
-use Rattle.writer.specs.Write.Modes.{one-or-two}
-use Rattle.writer.specs.Inner.Laid.{front, laid}
+use Rattle.modes.specs.Modes.{isWritten}
+use Rattle.modes.specs.Modes.Both.{one-or-two}
+use Rattle.sector_fields.specs.Front.{front}
+use Rattle.writer.specs.Write.{Asked}
+use Rattle.writer.specs.Inner.Laid.{laid}
 
 -- s begins with the front
 pub record Fronted (mode : ℕ) (time : HeaderTime) (s : List ℕ) : Type 0 where

@@ -2,7 +2,6 @@
 pub mod LayOut
 pub mod Laying
 pub mod Protects
-pub mod Protecting
 pub mod Making
 -- the ways out
-pub mod Ways
+pub mod WaysOut

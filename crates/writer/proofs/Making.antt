@@ -6,10 +6,10 @@ use Prim.Native.Nat.{ℕ, _≤_}
 use lib.ListN.{length}
 use Rattle.address.specs.declared.HeaderTime.{HeaderTime}
 use Rattle.sector.specs.Layout.{userLength}
+use Rattle.sector_fields.specs.Protect.{Protects}
 use Rattle.writer.specs.Inner.Make.{Askable, Makes}
 use Rattle.writer.specs.Inner.Laid.{laid}
 use Rattle.writer.proofs.Laying.{room, length-laid, asked-plain}
-use Rattle.writer.specs.Inner.Protect.{Protects}
 use Rattle.writer.proofs.Protects.{asked-mode01}
 
 module _ (mode : ℕ) (time : HeaderTime) (user s : List ℕ) (g : Askable mode time user) where

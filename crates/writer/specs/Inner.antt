@@ -1,5 +1,4 @@
 -- What the code goes by inside: contracts of private functions and what they need. No promise cites it.
 -- Assumes nothing.
 pub mod Laid
-pub mod Protect
 pub mod Make

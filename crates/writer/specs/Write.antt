@@ -1,7 +1,6 @@
 -- What the writer of a Sector answers and writes (clause 14; document 01, Order; document 02, §13).
 -- Assumes nothing.
 use mathlib.Core.Path.{_≡_}
-use mathlib.Core.Bool.{Bool, _||_}
 use mathlib.Core.List.{List, []}
 use Prim.Native.Nat.{ℕ}
 use lib.Dec.{eqb}
@@ -10,6 +9,7 @@ use Rattle.outcome.specs.Say.{Say, done, refused, demand, cleared}
 use Rattle.address.specs.Address.{inRange}
 use Rattle.sector.specs.Layout.{timeOf, modeOf, userLength, userData}
 use Rattle.sector.specs.Correct.{Correct}
+use Rattle.modes.specs.Modes.{isWritten}
 use Rattle.writer.specs.declared.Written.{Written}
 use Rattle.writer.specs.declared.Written.the-variants.{Done, WrongOutgoing, UnwrittenMode, WrongIncoming, WrongAddress}
 use Rattle.address.specs.declared.HeaderTime.{HeaderTime}
@@ -24,10 +24,6 @@ pub record Asked (mode : ℕ) (time : HeaderTime) (user s : List ℕ) : Type 0 w
   pub has-mode : modeOf s ≡ mode
   pub has-time : timeOf s ≡ time
   pub has-user : userData s ≡ user
-
--- the modes that are written: 01 and 02, and no more Mode 00
-unfoldable pub isWritten : ℕ → Bool
-isWritten mode = eqb mode 1 || eqb mode 2
 
 -- the order is 2, 3, 1, 4
 abbrev pub says : ℕ → HeaderTime → List ℕ → List ℕ → Say

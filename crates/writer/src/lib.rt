@@ -2,36 +2,10 @@
 ghost use mathlib.Core.Path.{_≡_};
 ghost use Prim.Native.Nat.{_≤_};
 ghost use lib.ListN.{length};
-ghost use Rattle.sector.specs.Layout.{userLength};
-ghost use Rattle.writer.specs.Write.{isWritten, Writes, sayOf};
-ghost use Rattle.writer.specs.Inner.Laid.{front, laid};
-ghost use Rattle.writer.specs.Inner.Protect.{Protects};
+ghost use Rattle.writer.specs.Write.{Writes, sayOf};
+ghost use Rattle.writer.specs.Inner.Laid.{laid};
 ghost use Rattle.writer.specs.Inner.Make.{Askable, Makes};
 use address::HeaderTime;
-
-// Sync, address and mode.
-fn front_of(mode: u8, time: HeaderTime) -> [u8; 16]
-    ensures { λ r. ⌜ r ≡ front mode time ⌝ }
-{
-    [
-        0,
-        255,
-        255,
-        255,
-        255,
-        255,
-        255,
-        255,
-        255,
-        255,
-        255,
-        0,
-        time.0,
-        time.1,
-        time.2,
-        mode,
-    ]
-}
 
 // A Sector with its front and its user data, and zeros to the end.
 fn lay_out(mode: u8, time: HeaderTime, user: &[u8]) -> [u8; 2352]
@@ -39,43 +13,11 @@ fn lay_out(mode: u8, time: HeaderTime, user: &[u8]) -> [u8; 2352]
     ensures { λ r. ⌜ r ≡ laid mode time (now (user .entry)) ⌝ }
 {
     let mut s = sector::blank();
-    let first = front_of(mode, time);
+    let first = sector_fields::front_of(mode, time);
     outcome::copy(&first, &mut s[..16]);
     let end = 16 + user.len();
     outcome::copy(user, &mut s[16..end]);
     s
-}
-
-// A Sector of Mode 01 that is laid out, with its EDC and its parities put in.
-fn protect(laid: [u8; 2352]) -> [u8; 2352]
-    ensures { λ r. ⌜ Protects laid r ⌝ }
-{
-    let mut s = laid;
-    let check = edc::parity(&s[..2064]);
-    outcome::copy(&check, &mut s[2064..2068]);
-    parities::put_p(&mut s);
-    parities::put_q(&mut s);
-    s
-}
-
-// Whether a mode is written.
-fn is_written(mode: u8) -> bool
-    ensures { λ r. ⌜ r ≡ isWritten mode ⌝ }
-{
-    if mode == 1 {
-        return true;
-    }
-    mode == 2
-}
-
-// How many bytes of user data a mode has.
-fn user_length(mode: u8) -> usize
-    ensures { λ r. ⌜ r ≡ userLength mode ⌝ }
-{
-    if mode == 1 {
-        return 2048;
-    }
-    2336
 }
 
 // The Sector that is asked for.
@@ -85,7 +27,7 @@ fn make(mode: u8, time: HeaderTime, user: &[u8]) -> [u8; 2352]
 {
     let s = lay_out(mode, time, user);
     if mode == 1 {
-        return protect(s);
+        return sector_fields::protect(s);
     }
     s
 }
@@ -106,11 +48,11 @@ pub fn write(mode: u8, time: HeaderTime, user: &[u8], out: &mut [u8]) -> Written
     if out.len() != 2352 {
         return Written::WrongOutgoing;
     }
-    if !is_written(mode) {
+    if !modes::is_written(mode) {
         outcome::wipe(out, 2352);
         return Written::UnwrittenMode;
     }
-    let right = user_length(mode);
+    let right = modes::user_length(mode);
     if user.len() != right {
         outcome::wipe(out, 2352);
         return Written::WrongIncoming;

@@ -1,14 +1,14 @@
 -- An address in range is known by its time, so that of two of them one lies before the other or they are the same.
 -- Assumes nothing.
-use mathlib.Core.Path.{_≡_, refl, sym, ap, _∙_}
-use mathlib.Core.Bool.{Bool, true, false, cond, _&&_, _||_}
-use Prim.Native.Nat.{ℕ, _+_, _-_, _*_, _/_, _%_, _<_, _≤_}
+use mathlib.Core.Path.{_≡_, refl, sym}
+use mathlib.Core.Bool.{Bool, true, false, _&&_, _||_}
+use Prim.Native.Nat.{_+_, _-_, _≤_}
 use native.Mathlib.Omega.{arith}
 use borrow.Author.Tests.{leb-true, ltb-false}
 use lib.Dec.{T, ltb, leb}
 use Rattle.outcome.specs.Table.Entries.{and-left, and-right, true-of, of-true}
 use Rattle.digits.specs.Digits.{decimal, twoDigits}
-use Rattle.digits.specs.Digits.One.{tens-lt, ones-lt, within, decimal-one}
+use Rattle.digits.specs.Digits.One.{within, decimal-one}
 use Rattle.address.specs.declared.HeaderTime.{HeaderTime}
 use Rattle.address.specs.Address.{inProgramArea, inLeadIn, inRange}
 use Rattle.address.specs.Elapsed.{minutes, elapsed}

@@ -1,4 +1,4 @@
--- `aligning::align` meets its contract: each way out is a law of `Ways`, whose premises are what the tests and `put_aligned` said.
+-- `aligning::align` meets its contract: each way out is a law of `WaysOut`, whose premises are what the tests and `put_aligned` said.
 -- Assumes nothing.
 use mathlib.Core.Path.{sym, _∙_}
 use native.Mathlib.Omega.{arith}
@@ -6,7 +6,7 @@ use borrow.Author.Needs.{needs}
 use borrow.Author.Tests.{not-true, not-false}
 use lib.ListN.{length}
 use Rattle.alignment.specs.Row.Counted.{row-whole, row-most}
-use Rattle.alignment.specs.Aligned.Ways.{on-incoming, on-place, on-outgoing, on-done}
+use Rattle.alignment.specs.Aligned.WaysOut.{on-incoming, on-place, on-outgoing, on-done}
 use Rattle.aligning.proofs.align.Statement.{statement}
 use Rattle.aligning.proofs.align.Tie as tie
 

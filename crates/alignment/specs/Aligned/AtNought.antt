@@ -10,16 +10,16 @@ use lib.Dec.{eqb}
 use lib.ListN.{length, take, drop, length-drop}
 use lib.Seq.{length-take-le}
 use Rattle.sector.specs.Layout.{zeros}
-use Rattle.entry.specs.Entry.Ways as entry
-use Rattle.f1_frames.specs.Exchange.{exchanged}
-use Rattle.f1_frames.specs.Exchange.Pairs.{exchanged-part}
+use Rattle.entry.specs.Entry.WaysOut as entry
+use Rattle.pair_exchange.specs.Exchange.{exchanged}
+use Rattle.pair_exchange.specs.Exchange.Pairs.{exchanged-part}
 use Rattle.f1_frames.specs.Frames.{f1Frames, cut, cutting}
 use Rattle.f1_frames.specs.Frames.Placed.{f1-exchanged}
 use Rattle.alignment.specs.Row.{isRow}
 use Rattle.alignment.specs.Row.Counted.{is-row}
 use Rattle.alignment.specs.Aligned.{framesFor, filled, aligned, aligning}
 use Rattle.alignment.specs.Aligned.Placed.{frames-at-nought}
-use Rattle.alignment.specs.Aligned.Ways.{on-outgoing, on-done}
+use Rattle.alignment.specs.Aligned.WaysOut.{on-outgoing, on-done}
 
 module _ (k : ℕ) (s : List ℕ) (long : length s ≡ 2352 * k) where
   -- nothing is placed before them, and nothing behind

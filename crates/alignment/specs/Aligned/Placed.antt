@@ -8,8 +8,8 @@ use lib.ListN.{length, getD, take, drop, length-append, getD-replicate, List·ge
 use lib.Seq.{take-at, drop-at, getD-append-add}
 use Rattle.sector.specs.Layout.{zeros}
 use Rattle.sector.specs.Layout.Zeros.{length-zeros}
-use Rattle.f1_frames.specs.Exchange.{exchanged, other}
-use Rattle.f1_frames.specs.Exchange.Pairs.{exchanged-append, exchanged-zeros}
+use Rattle.pair_exchange.specs.Exchange.{exchanged, other}
+use Rattle.pair_exchange.specs.Exchange.Pairs.{exchanged-append, exchanged-zeros}
 use Rattle.f1_frames.specs.Frames.{frame, bytesOf}
 use Rattle.f1_frames.specs.Frames.Placed.{f1-exchanged, length-f1, of-f1, stands}
 use Rattle.alignment.specs.Aligned.{framesFor, filled, aligned}

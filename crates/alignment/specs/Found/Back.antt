@@ -18,11 +18,11 @@ use Rattle.f1_frames.specs.Frames.Placed.{length-of, f1-of}
 use Rattle.alignment.specs.Row.{isRow}
 use Rattle.alignment.specs.Row.Counted.{is-row}
 use Rattle.alignment.specs.Aligned.{framesFor, filled, aligned, aligning}
-use Rattle.alignment.specs.Aligned.Ways as written
+use Rattle.alignment.specs.Aligned.WaysOut as written
 use Rattle.alignment.specs.Aligned.Placed.{behind, length-aligned, filled-back, from-first, sectors-there, zero-before}
 use Rattle.alignment.specs.Aligned.AtNought.{at-nought}
 use Rattle.alignment.specs.Found.{room, bytesIn, place, syncStands, nOf, frameOf, wholeFrom, sectorsFrom, finding}
-use Rattle.alignment.specs.Found.Ways.{on-found}
+use Rattle.alignment.specs.Found.WaysOut.{on-found}
 
 bytes-back : (n : ℕ) (s : List ℕ) → bytesIn (aligned n s) ≡ filled n s
 unfolding bytesIn

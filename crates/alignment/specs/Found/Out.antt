@@ -12,7 +12,7 @@ use Rattle.sector.specs.Layout.Zeros.{length-zeros}
 use Rattle.f1_frames.specs.Frames.{byteIn, bytesOf}
 use Rattle.alignment.specs.Aligned.Placed.{zero-at}
 use Rattle.alignment.specs.Found.{room, bytesIn, wholeFrom, sectorsFrom}
-use Rattle.alignment.specs.Found.Ways.{room-is}
+use Rattle.alignment.specs.Found.WaysOut.{room-is}
 use Rattle.alignment.specs.Found.First.{length-bytes}
 
 module _ (p : ℕ) (frames : List ℕ) (whole : length frames % 24 ≡ 0) (few : length frames / 24 ≤ 2730) (inside : p ≤ length frames) where

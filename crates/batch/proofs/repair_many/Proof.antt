@@ -1,7 +1,7 @@
--- `batch::repair_many` meets its contract: each way out is a law of `Ways`, or the batch is taken.
+-- `batch::repair_many` meets its contract: each way out is a law of `WaysOut`, or the batch is taken.
 -- Assumes nothing.
 use borrow.Author.Needs.{needs}
-use Rattle.batch.proofs.Ways.{ways}
+use Rattle.batch.proofs.WaysOut.{ways}
 use Rattle.batch.proofs.repair_many.Statement.{statement}
 use Rattle.batch.proofs.repair_many.Tie as tie
 

@@ -1,10 +1,10 @@
--- `carrying::carry` meets its contract: each way out is a law of `Ways`.
+-- `carrying::carry` meets its contract: each way out is a law of `WaysOut`.
 -- Assumes nothing.
 use mathlib.Core.Path.{sym, _∙_}
 use native.Mathlib.Omega.{arith}
 use borrow.Author.Tests.{not-false}
 use Rattle.counting.specs.Count.Bytes.{and-both}
-use Rattle.carrying.proofs.Ways.{ways, on-done}
+use Rattle.carrying.proofs.WaysOut.{ways, on-done}
 use borrow.Author.Needs.{needs}
 use Rattle.carrying.proofs.carry.Statement.{statement}
 use Rattle.carrying.proofs.carry.Tie as tie
@@ -22,7 +22,7 @@ returns-2 : tie.Need-returns-2
 returns-2 c = search ways
 
 first-fault-requires : tie.Need-first-fault-requires
-first-fault-requires c κs = c .before .before .frames-in .ensures .so-many (c .before .if1 .left)
+first-fault-requires c κs = search needs
 
 refusal-requires : tie.Need-refusal-requires
 refusal-requires c κs = search needs

@@ -2,15 +2,15 @@
 -- Assumes nothing.
 use mathlib.Core.Path.{_≡_, refl, sym, ap, subst, _∙_}
 use mathlib.Core.Bool.{cond}
-use mathlib.Core.List.{List, []}
+use mathlib.Core.List.{List}
 use Prim.Native.Nat.{ℕ, _*_}
 use native.Mathlib.Omega.{arith}
 use lib.Dec.{eqb}
-use lib.ListN.{length, replicate}
+use lib.ListN.{replicate}
 use Rattle.outcome.specs.Say.{Say, done, refused}
 use Rattle.outcome.specs.Say.Refusals.{never}
 use Rattle.address.specs.declared.HeaderTime.{HeaderTime}
-use Rattle.writer.specs.Write.{isWritten}
+use Rattle.modes.specs.Modes.{isWritten}
 use Rattle.writer.specs.Write.One.{asked-one}
 use Rattle.batch.specs.Sectors.Apart.{sectors-same}
 use Rattle.carrying.specs.declared.Carrying.{Carrying}

@@ -9,7 +9,8 @@ use Rattle.address.specs.declared.HeaderTime.{HeaderTime}
 use Rattle.counting.specs.Count.{after}
 use Rattle.data_frame.specs.DataFrame.{mainData}
 use Rattle.sector.specs.Correct.{CorrectMode01}
-use Rattle.writer.specs.Write.{isWritten, Writes}
+use Rattle.modes.specs.Modes.{isWritten}
+use Rattle.writer.specs.Write.{Writes}
 use Rattle.writer.specs.Write.One.{asked-one}
 use Rattle.writer.specs.Write.Judged.{written-asked}
 use Rattle.repair.specs.Repair.{Repairs}

@@ -5,7 +5,7 @@ use mathlib.Core.List.{List, [], _∷_}
 use Prim.Native.Nat.{ℕ, zero, suc, _<_}
 use native.Mathlib.Nat.{not-suc-le-zero, le-of-suc-le-suc}
 use lib.ListN.{length, getD, take}
-use Rattle.choosing.specs.declared.trace.Trace.{Trace}
+use Rattle.traces.specs.declared.Trace.{Trace}
 use Rattle.choosing.specs.Choices.{wordChoice, wordsChosen, wordsTrace}
 
 -- there is one for each symbol

@@ -14,22 +14,23 @@ use Rattle.circ_runs.proofs.read_frame.Tie as tie
 end-of-requires : tie.Need-end-of-requires
 end-of-requires c κs = search needs
 
-slice-aggregate-step : tie.Need-slice-aggregate-step
-slice-aggregate-step c =
-    let incoming = c .before .before .before .before .before .args .incoming .now in
-    sym (length-take-le (c .before .end-of .result) incoming (lent-in 32 0 (c .before .end-of .result) incoming (omega arith) (c .before .end-of .ensures)))
+slice-aggregate-read-in-place : tie.Need-slice-aggregate-read-in-place
+slice-aggregate-read-in-place c =
+    let split = c .before .before .before in
+    let incoming = split .before .before .before .before .args .incoming .now in
+    sym (length-take-le (split .end-of .result) incoming (lent-in 32 0 (split .end-of .result) incoming (omega arith) (split .end-of .ensures)))
 
-sub-step : tie.Need-sub-step
-sub-step c = search needs
+sub-read-in-place : tie.Need-sub-read-in-place
+sub-read-in-place c = search needs
 
-part-step-start : tie.Need-part-step-start
-part-step-start c = search needs
+part-read-in-place-start : tie.Need-part-read-in-place-start
+part-read-in-place-start c = search needs
 
-part-step-end : tie.Need-part-step-end
-part-step-end c = search needs
+part-read-in-place-end : tie.Need-part-read-in-place-end
+part-read-in-place-end c = search needs
 
-step-requires : tie.Need-step-requires
-step-requires c κs = search needs
+read-in-place-requires : tie.Need-read-in-place-requires
+read-in-place-requires c κs = search needs
 
 was-read-requires : tie.Need-was-read-requires
 was-read-requires c κs = search needs
@@ -48,14 +49,14 @@ same-length-2 c = search needs
 
 returns : tie.Need-returns
 returns c =
-    let put = c .before .before .before in
+    let put = c .before .before in
     let marked = put .before .before in
     let told = marked .before in
     let stepped = told .before .before .before in
-    let split = stepped .before .before .before .before in
-    let start = split .before .before .before .before in
+    let split = stepped .before .before .before .before .before .before in
+    let a = split .before .before .before .before .args in
     leaves-all readingInPlace _ _ _ _ _ _ _ _
-    (frame-and-marks (readerRings (start .args .reader .places) (start .args .reader .store)) (start .args .incoming .now) (start .args .out .now) (split .end-of .result) _ (split .end-of .ensures) (stepped .step .ensures))
+    (frame-and-marks (readerRings (a .places .now) (a .store .now)) (a .incoming .now) (a .out .now) (split .end-of .result) _ (split .end-of .ensures) (stepped .read-in-place .ensures))
     (put .put .ensures)
     (told .was-read .ensures)
     (marked .doubt .ensures)
@@ -65,11 +66,11 @@ read-frame-spec =
     tie.close
     (tie.spec
     end-of-requires
-    slice-aggregate-step
-    sub-step
-    part-step-start
-    part-step-end
-    step-requires
+    slice-aggregate-read-in-place
+    sub-read-in-place
+    part-read-in-place-start
+    part-read-in-place-end
+    read-in-place-requires
     was-read-requires
     doubt-requires
     put-requires

@@ -6,8 +6,8 @@ use Rattle.circ_runs.proofs.Leaving.{leaves-all, no-value}
 use Rattle.circ_runs.proofs.write_frame.Statement.{statement}
 use Rattle.circ_runs.proofs.write_frame.Tie as tie
 
-step-requires : tie.Need-step-requires
-step-requires c κs = search needs
+write-in-place-requires : tie.Need-write-in-place-requires
+write-in-place-requires c κs = search needs
 
 written-requires : tie.Need-written-requires
 written-requires c κs = search needs
@@ -24,12 +24,12 @@ same-length-2 c = search needs
 returns : tie.Need-returns
 unfolding writingInPlace
 returns c =
-    let put = c .before .before .before in
+    let put = c .before .before in
     let told = put .before .before in
     let stepped = told .before .before .before in
-    leaves-all writingInPlace _ _ _ _ _ _ _ _ (stepped .step .ensures) (put .put .ensures) (told .written .ensures) (no-value (stepped .step .result .answer))
+    leaves-all writingInPlace _ _ _ _ _ _ _ _ (stepped .write-in-place .ensures) (put .put .ensures) (told .written .ensures) (no-value (stepped .write-in-place .result))
 
 pub write-frame-spec : {M : Type 1} → statement M
 write-frame-spec =
     tie.close
-    (tie.spec step-requires written-requires put-requires same-length same-length-2 returns)
+    (tie.spec write-in-place-requires written-requires put-requires same-length same-length-2 returns)

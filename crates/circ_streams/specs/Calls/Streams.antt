@@ -4,7 +4,6 @@ use mathlib.Core.Path.{_≡_, refl, sym, ap, _∙_}
 use mathlib.Core.List.{List, [], _∷_, _++_}
 use Prim.Native.Nat.{ℕ, suc}
 use borrow.Author.Tests.{eqb-true}
-use lib.Dec.{eqb}
 use lib.ListN.{length}
 use Rattle.outcome.specs.Say.{done}
 use Rattle.calls.specs.Step.{step}
@@ -12,7 +11,7 @@ use Rattle.calls.specs.Calls.{run, doneOf, accepted, firsts}
 use Rattle.circ.specs.Chains.{writerOut, writerNext, writerAt}
 use Rattle.circ.specs.Codes.{qOf, pOf}
 use Rattle.circ.specs.Marked.{markedOut, markedDoubt, markedNext, markedAt}
-use Rattle.circ.specs.Steps.{fitsWriter, fitsReader}
+use Rattle.circ.specs.Steps.{fitsWriter}
 use Rattle.circ.specs.Steps.Fits.{fit-both}
 use Rattle.circ_streams.specs.Streams.{f2At, f1At, doubtAt}
 use Rattle.circ_streams.specs.Streams.Steps.{writer-fresh, reader-fresh, writer-step, reader-step}

@@ -1,6 +1,6 @@
 -- The doubt mark is 1 exactly where it is due, and else 0.
 -- Assumes nothing.
-use mathlib.Core.Path.{_≡_, refl, sym, ap, _∙_, subst}
+use mathlib.Core.Path.{_≡_, refl, _∙_, subst}
 use mathlib.Core.Logic.{_⊎_, inl, inr}
 use mathlib.Core.List.{List}
 use mathlib.Core.Option.{Option, none, some}
@@ -17,7 +17,7 @@ use Rattle.erasures.specs.Agreeing.Exact.{agreeing-sound, agreeing-never}
 use Rattle.lines.specs.Stream.{back}
 use Rattle.circ.specs.Marks.{Marks}
 use Rattle.circ.specs.Marks.Either.{either-marks}
-use Rattle.circ.specs.Codes.{markOf, corrected, lost, doubted}
+use Rattle.circ.specs.Codes.{corrected, lost, doubted}
 use Rattle.circ.specs.Codes.Corrected.{judged}
 use Rattle.circ.specs.Codes.Treated.{positive, treats-unmarked, treats-agreeing, treats-none, treats-too-many}
 use Rattle.circ.specs.Marked.{wordMetC2, marksMetC2}

@@ -8,16 +8,15 @@ use Prim.Native.Nat.{ℕ, _≤_, _<_}
 use native.Mathlib.Omega.{arith}
 use lib.Bits.{bitXor}
 use lib.ListN.{length, take, getD, getD-replicate}
-use lib.Seq.{length-take-le}
 use Rattle.xor.specs.Added.Places.{added-at}
 use Rattle.codeword.specs.Code.{weight}
 use Rattle.erasures.specs.Agrees.{Agrees}
-use Rattle.lines.specs.Stream.{back, outAt}
+use Rattle.lines.specs.Stream.{back}
 use Rattle.lines.specs.Stream.Late.{back-agree}
 use Rattle.lines.specs.Stream.Rows.{row-waits, out-same}
 use Rattle.circ.specs.Rows.{readerBeforeC1, readerBetween, readerAfterC2, mask, inverted}
 use Rattle.circ.specs.Chains.{throughC1, throughC2, readerRows, readerAt, metC1, metC2}
-use Rattle.circ.specs.Codes.{qOf, pOf, corrected, lost, treated, doubted}
+use Rattle.circ.specs.Codes.{qOf, pOf, corrected, lost, doubted}
 use Rattle.circ.specs.Codes.Corrected.{length-corrected}
 use Rattle.circ.specs.Codes.Treated.{Treats, treats-right, sure-or-right}
 use Rattle.circ.specs.Marks.{lostBy, lostMarks}

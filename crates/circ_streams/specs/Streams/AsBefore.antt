@@ -10,7 +10,7 @@ use Rattle.codeword.specs.Code.{weight, Near}
 use Rattle.lines.specs.Stream.Rows.{out-same}
 use Rattle.circ.specs.Rows.{collected, doubt, readerBetween, readerAfterC2}
 use Rattle.circ.specs.Chains.{throughC1, throughC2, readerRows, readerAt, metC1, metC2}
-use Rattle.circ.specs.Codes.{corrected, lost, doubted}
+use Rattle.circ.specs.Codes.{corrected, lost}
 use Rattle.circ.specs.Codes.Corrected.{judged}
 use Rattle.circ.specs.Codes.Treated.{treats-unmarked}
 use Rattle.circ.specs.Marked.{bytesC1, rowsC2, markedRows, markedAt, marksMetC1, wordMetC2, marksMetC2}

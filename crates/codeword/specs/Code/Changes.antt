@@ -10,7 +10,7 @@ use native.Mathlib.Omega.{arith}
 use lib.Dec.{eqb}
 use lib.ListN.{length, set}
 use borrow.Author.Tests.{eq-eqb, ne-eqb}
-use Rattle.codeword.specs.Code.{changes}
+use Rattle.codeword.specs.Code.{changes, weight}
 
 -- ---- two bytes
 
@@ -26,6 +26,13 @@ unlike-le x y = go (ℕ-discrete x y)
     go : Dec (x ≡ y) → cond {A = ℕ} (eqb x y) 0 1 ≤ 1
     go (yes p) = omega (arith, unlike-same x y p)
     go (no n) = omega (arith, unlike-other x y n)
+
+-- ---- one word
+
+pub weight-le : (w : List ℕ) → weight w ≤ length w
+unfolding weight
+weight-le [] = omega arith
+weight-le (x ∷ w) = omega (arith, unlike-le x 0, weight-le w)
 
 -- ---- two words
 

@@ -10,7 +10,7 @@ use lib.Bits.{bitXor, xor-zero-r, xor-lt}
 use lib.ListN.{length, getD, set, take, length-append, length-set}
 use lib.Seq.{take-suc, take-all}
 use Rattle.outcome.specs.Bytes.{Bytes}
-use Rattle.outcome.specs.Bytes.Kept.{bytes-nil, bytes-cons, bytes-take}
+use Rattle.outcome.specs.Bytes.Kept.{bytes-take}
 use Rattle.xor.specs.Added.{added}
 use Rattle.xor.specs.Added.Places.{length-added, bytes-added}
 use Rattle.xor.specs.Xor.Group.{xor-assoc, xor-swap, xor-right-comm}

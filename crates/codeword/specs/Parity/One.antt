@@ -14,18 +14,13 @@ use Rattle.field.specs.Field.{power, mul}
 use Rattle.field.specs.Field.Linear.{mul-one-r}
 use Rattle.field.specs.Field.Powers.{power-zero, power-mod}
 use Rattle.field.specs.Field.Product.{mul-nonzero, mul-power-add}
-use Rattle.codeword.specs.Code.{sum, Codeword, weight}
+use Rattle.codeword.specs.Code.{sum, Codeword}
 use Rattle.codeword.specs.Code.Sums.{times-0, sum-lt, sum-append, sum-part}
-use Rattle.codeword.specs.Code.Changes.{unlike-le, changes-le}
+use Rattle.codeword.specs.Code.Changes.{weight-le, changes-le}
 use Rattle.codeword.specs.Code.Distance.{distance, added-zero, same-sums}
 use Rattle.codeword.specs.Parity.{WithSums, Parity}
 
 -- ---- at most one choice
-
-weight-le : (d : List ℕ) → weight d ≤ length d
-unfolding weight
-weight-le [] = omega arith
-weight-le (x ∷ d) = omega (arith, unlike-le x 0, weight-le d)
 
 added-twice : (p q : List ℕ) → length p ≡ length q → added p (added p q) ≡ q
 added-twice [] [] e = refl

@@ -1,6 +1,6 @@
 -- `control::both_in_range` meets its contract: the first time decides, or the second.
 -- Assumes nothing.
-use mathlib.Core.Path.{_≡_, sym, _∙_}
+use mathlib.Core.Path.{sym, _∙_}
 use borrow.Author.Needs.{needs}
 use borrow.Author.Tests.{not-true, not-false}
 use Rattle.control.proofs.both_in_range.Statement.{statement}

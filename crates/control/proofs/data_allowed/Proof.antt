@@ -1,6 +1,6 @@
 -- `control::data_allowed` meets its contract: each way out of an arm has the tests that its case of `allowedData` asks.
 -- Assumes nothing.
-use mathlib.Core.Path.{_≡_, sym, _∙_}
+use mathlib.Core.Path.{sym, _∙_}
 use borrow.Author.Needs.{needs}
 use borrow.Author.Tests.{not-true, not-false}
 use Rattle.control.proofs.data_allowed.Statement.{statement}

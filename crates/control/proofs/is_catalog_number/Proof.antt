@@ -1,7 +1,7 @@
 -- `control::is_catalog_number` meets its contract: what is left of the number decides for all of it (`Digits`).
 -- Assumes nothing.
 use mathlib.Core.Path.{_≡_, refl, sym, _∙_}
-use Prim.Native.Nat.{ℕ, _-_, _≤_}
+use Prim.Native.Nat.{_-_, _≤_}
 use native.Mathlib.Omega.{arith}
 use borrow.Author.Needs.{needs}
 use Rattle.control.specs.Fields.{decimalDigits}

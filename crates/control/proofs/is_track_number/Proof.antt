@@ -1,6 +1,5 @@
 -- `control::is_track_number` meets its contract: it goes by the same two tests.
 -- Assumes nothing.
-use mathlib.Core.Path.{_≡_}
 use borrow.Author.Needs.{needs}
 use borrow.Author.Tests.{eq-eqb, ne-eqb}
 use Rattle.control.specs.Fields.{trackNumber}

@@ -1,6 +1,6 @@
 -- `control::item_allowed` meets its contract: each arm has the tests that its case of `allowedItem` asks.
 -- Assumes nothing.
-use mathlib.Core.Path.{_≡_, sym, _∙_}
+use mathlib.Core.Path.{sym, _∙_}
 use borrow.Author.Needs.{needs}
 use borrow.Author.Tests.{not-true, not-false}
 use Rattle.control.proofs.item_allowed.Statement.{statement}

@@ -10,7 +10,6 @@ use Rattle.bits.specs.Bits.{bitsOf, unpack}
 use Rattle.bits.specs.Bits.Numbers.{bits-split, bits-low, bits-join}
 use Rattle.control_time.specs.declared.ControlTime.{ControlTime}
 use Rattle.control.specs.declared.Copying.{Copying}
-use Rattle.control.specs.declared.Copying.the-variants.{Forbidden, Permitted}
 use Rattle.control.specs.declared.Item.{Item}
 use Rattle.control.specs.declared.Item.the-variants.{Track, FirstTrack, LastTrack, LeadOutTrack}
 use Rattle.control.specs.declared.QData.{QData}

@@ -1,7 +1,5 @@
 -- `control_fields::copying_in` meets its contract: it goes by the same test.
 -- Assumes nothing.
-use mathlib.Core.Path.{_≡_}
-use borrow.Author.Needs.{needs}
 use borrow.Author.Tests.{eq-eqb, ne-eqb}
 use Rattle.control_fields.proofs.copying_in.Statement.{statement}
 use Rattle.control_fields.proofs.copying_in.Tie as tie

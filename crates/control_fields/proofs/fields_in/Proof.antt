@@ -1,6 +1,5 @@
 -- `control_fields::fields_in` meets its contract: each part is the definition's.
 -- Assumes nothing.
-use mathlib.Core.Path.{_≡_}
 use borrow.Author.Needs.{needs}
 use Rattle.control_fields.specs.Found.{fieldsIn}
 use Rattle.control_fields.proofs.fields_in.Statement.{statement}

@@ -1,6 +1,5 @@
 -- `control_fields::item_in` meets its contract: it goes by the same tests on the POINTER field.
 -- Assumes nothing.
-use mathlib.Core.Path.{_≡_}
 use borrow.Author.Needs.{needs}
 use borrow.Author.Tests.{eq-eqb, ne-eqb}
 use Rattle.control_fields.specs.Found.{itemIn}

@@ -1,12 +1,12 @@
 -- Fields that clause 22 allows are found again in their ten bytes.
 -- Assumes nothing.
-use mathlib.Core.Path.{_≡_, refl, sym, ap, ap₂, _∙_}
-use mathlib.Core.Bool.{Bool, true, false, not, cond, _&&_}
-use mathlib.Core.List.{List, _∷_}
+use mathlib.Core.Path.{_≡_, refl, sym, ap, _∙_}
+use mathlib.Core.Bool.{Bool, true, false, not, _&&_}
+use mathlib.Core.List.{_∷_}
 use Prim.Native.Nat.{ℕ, zero, suc, _+_, _*_, _/_, _%_, _^_, _<_, _≤_}
 use native.Mathlib.Nat.{pow-suc}
 use native.Mathlib.Omega.{arith}
-use borrow.Author.Tests.{eqb-true, ne-eqb, ltb-true}
+use borrow.Author.Tests.{eqb-true, ne-eqb}
 use lib.Dec.{eqb, ltb}
 use lib.Pow.{shr-shr}
 use Rattle.digits.specs.Digits.{twoDigits}
@@ -23,7 +23,7 @@ use Rattle.control.specs.Fields.{trackNumber, decimalDigits, allowedItem, allow
 use Rattle.control.specs.Channels.{controlField, qMode, itemFields}
 use Rattle.control.specs.Inner.FieldBytes.{catalogBytes, dataBytes, fieldBytes}
 use Rattle.control.specs.Inner.Small.{both, track-lt, mode-lt}
-use Rattle.control_fields.specs.Found.{copyingIn, timeIn, itemIn, digitsIn, dataIn, fieldsIn}
+use Rattle.control_fields.specs.Found.{copyingIn, itemIn, digitsIn, dataIn, fieldsIn}
 
 -- ---- a Catalog Number
 

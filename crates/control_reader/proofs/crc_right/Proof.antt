@@ -1,6 +1,5 @@
 -- `control_reader::crc_right` meets its contract: the two bytes are those of the last sixteen bits exactly where the bits are the CRC (`Crcs`).
 -- Assumes nothing.
-use mathlib.Core.Path.{_≡_}
 use borrow.Author.Needs.{needs}
 use Rattle.control_reader.proofs.Crcs.{first-differs, second-decides}
 use Rattle.control_reader.proofs.crc_right.Statement.{statement}

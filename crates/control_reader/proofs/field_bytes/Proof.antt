@@ -1,6 +1,5 @@
 -- `control_reader::field_bytes` meets its contract: the ten bytes, one after the other (`pack-at`).
 -- Assumes nothing.
-use mathlib.Core.Path.{_≡_, sym, _∙_}
 use borrow.Author.Needs.{needs}
 use Rattle.control_reader.specs.Reading.{qOf}
 use Rattle.control_reader.specs.Inner.Bits.{pack-at}

@@ -1,9 +1,8 @@
--- `control_reader::read_control` meets its contract: each way out is a law of `Ways`; 16 and 17 are searched for, so that an exchanged order lacks a premise.
+-- `control_reader::read_control` meets its contract: each way out is a law of `WaysOut`; 16 and 17 are searched for, so that an exchanged order lacks a premise.
 -- Assumes nothing.
-use mathlib.Core.Path.{_≡_}
 use borrow.Author.Needs.{needs}
 use Rattle.control_reader.specs.Reading.{wrong-length}
-use Rattle.control_reader.proofs.Ways.{on-fields, on-read, ways}
+use Rattle.control_reader.proofs.WaysOut.{on-fields, on-read, ways}
 use Rattle.control_reader.proofs.read_control.Statement.{statement}
 use Rattle.control_reader.proofs.read_control.Tie as tie
 

@@ -1,17 +1,16 @@
 -- The q-channel of Control bytes, in bits and in bytes.
 -- Assumes nothing.
-use mathlib.Core.Path.{_≡_, refl, sym, ap, ap₂, subst, _∙_}
-use mathlib.Core.Bool.{Bool, true, false}
+use mathlib.Core.Path.{_≡_, refl, sym, ap, ap₂, _∙_}
 use mathlib.Core.List.{List, [], _∷_, _++_}
-use Prim.Native.Nat.{ℕ, zero, suc, _+_, _*_, _/_, _%_, _^_, _<_, _≤_}
+use Prim.Native.Nat.{ℕ, zero, suc, _+_, _*_, _/_, _%_, _^_, _<_}
 use native.Mathlib.Omega.{arith}
 use lib.ListN.{length, getD, take, drop, take-append-drop, length-drop}
 use lib.Seq.{drop-drop, take-add, take-append-le, drop-append-le, length-take-le, getD-drop, take-suc}
 use native.Mathlib.Numerals.{add-one}
 use Rattle.outcome.specs.Table.{tabulated}
-use Rattle.bits.specs.Bits.{bitsOf, number, unpack, pack}
+use Rattle.bits.specs.Bits.{number, unpack, pack}
 use Rattle.bits.specs.Bits.Numbers.{number-append, number-shift, number-lt}
-use Rattle.bits.specs.Bits.Packed.{unpack-pack, pack-unpack}
+use Rattle.bits.specs.Bits.Packed.{unpack-pack}
 use Rattle.bits.specs.Binary.{Binary}
 use Rattle.bits.specs.Binary.Parts.{binary-take, binary-drop}
 use Rattle.control.specs.Channels.{framed}

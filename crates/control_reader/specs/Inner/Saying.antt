@@ -2,7 +2,7 @@
 -- Assumes nothing.
 use mathlib.Core.Path.{_≡_, refl, sym, ap, ap₂, subst, _∙_}
 use mathlib.Core.Bool.{Bool, true, false, _&&_, _||_}
-use mathlib.Core.List.{List, [], _∷_, _++_}
+use mathlib.Core.List.{List, [], _∷_}
 use Prim.Native.Nat.{ℕ, _+_, _*_, _/_, _%_, _^_, _<_}
 use native.Mathlib.Omega.{arith}
 use borrow.Author.Tests.{eq-eqb, ne-eqb, eqb-true, eqb-false}
@@ -10,7 +10,7 @@ use lib.Dec.{eqb}
 use lib.ListN.{length, getD, take, drop}
 use lib.Seq.{take-at, drop-at}
 use Rattle.outcome.specs.Say.{Say, done, refused, demand}
-use Rattle.bits.specs.Bits.{bitsOf, number, unpack, pack}
+use Rattle.bits.specs.Bits.{bitsOf, number, pack}
 use Rattle.bits.specs.Bits.Numbers.{length-bits, number-bits}
 use Rattle.bits.specs.Bits.Packed.{pack-unpack}
 use Rattle.bits.specs.Binary.{Binary}
@@ -21,7 +21,7 @@ use Rattle.control.specs.declared.QData.{QData}
 use Rattle.control.specs.declared.QData.the-variants.{UserData, LeadOut, LeadIn, CatalogNumber}
 use Rattle.control.specs.declared.Control.{Control}
 use Rattle.control.specs.Fields.{allowed}
-use Rattle.control.specs.Channels.{controlField, qMode, dataBits, fieldBits, qChannel, pBit, framed, controlBytes}
+use Rattle.control.specs.Channels.{controlField, qMode, dataBits, fieldBits, qChannel, pBit, controlBytes}
 use Rattle.control.specs.Channels.Framed as sizes
 use Rattle.control.specs.Values.{valuesOf}
 use Rattle.control.specs.Inner.FieldBytes.{fieldBytes, length-fields, field-bits}

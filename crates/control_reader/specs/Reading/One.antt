@@ -3,7 +3,6 @@
 use mathlib.Core.Path.{_≡_, refl, sym, ap, _∙_}
 use mathlib.Core.List.{List}
 use Prim.Native.Nat.{ℕ}
-use native.Mathlib.Omega.{arith}
 use Rattle.outcome.specs.Say.{Say}
 use Rattle.control.specs.Values.One.{values-one}
 use Rattle.control_reader.specs.declared.ControlRead.{ControlRead}

@@ -1,7 +1,5 @@
 -- `control_told::copying_given` meets its contract: it goes by the same test.
 -- Assumes nothing.
-use mathlib.Core.Path.{_≡_}
-use borrow.Author.Needs.{needs}
 use borrow.Author.Tests.{eq-eqb, ne-eqb}
 use Rattle.control_told.proofs.copying_given.Statement.{statement}
 use Rattle.control_told.proofs.copying_given.Tie as tie

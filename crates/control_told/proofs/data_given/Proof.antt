@@ -1,6 +1,5 @@
 -- `control_told::data_given` meets its contract: it goes by the same tests.
 -- Assumes nothing.
-use mathlib.Core.Path.{_≡_}
 use borrow.Author.Needs.{needs}
 use borrow.Author.Tests.{eq-eqb, ne-eqb}
 use Rattle.control_told.specs.Given.{dataGiven}

@@ -1,6 +1,5 @@
 -- `control_told::fields_given` meets its contract: each part is the definition's.
 -- Assumes nothing.
-use mathlib.Core.Path.{_≡_}
 use borrow.Author.Needs.{needs}
 use lib.Dec.{eqb}
 use lib.ListN.{getD}

@@ -1,6 +1,6 @@
 -- `control_told::values_of` meets its contract: p bit, Control field, and the values of the q-Data field.
 -- Assumes nothing.
-use mathlib.Core.Path.{_≡_, ap₂, _∙_}
+use mathlib.Core.Path.{ap₂, _∙_}
 use mathlib.Core.List.{_∷_}
 use Prim.Native.Nat.{ℕ}
 use borrow.Author.Needs.{needs}

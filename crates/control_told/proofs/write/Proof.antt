@@ -1,6 +1,6 @@
 -- `control_told::write` meets its contract: it keeps the promise of `write_control`, and `tell_written` tells the answer.
 -- Assumes nothing.
-use mathlib.Core.Path.{_≡_, refl, ap, _∙_}
+use mathlib.Core.Path.{refl, ap, _∙_}
 use borrow.Author.Needs.{needs}
 use Rattle.control.specs.declared.Control.{Control}
 use Rattle.control_writer.specs.Writing.{writing}

@@ -1,6 +1,5 @@
 -- `control_writer::field_bytes` meets its contract: the first byte has the two fields, of four bits each.
 -- Assumes nothing.
-use mathlib.Core.Path.{_≡_}
 use native.Mathlib.Omega.{arith}
 use borrow.Author.Needs.{needs}
 use Rattle.control.specs.Inner.Small.{field-lt, mode-lt}

@@ -1,6 +1,6 @@
 -- `control_writer::joined` meets its contract: both lists, one element after the other.
 -- Assumes nothing.
-use mathlib.Core.Path.{_≡_, sym, ap₂}
+use mathlib.Core.Path.{sym, ap₂}
 use mathlib.Core.List.{_++_}
 use borrow.Author.Needs.{needs}
 use Rattle.control_writer.specs.Inner.Coded.{one-by-one}

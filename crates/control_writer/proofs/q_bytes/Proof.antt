@@ -1,11 +1,10 @@
 -- `control_writer::q_bytes` meets its contract: the fields, and the CRC over their bits (`coded-bytes`).
 -- Assumes nothing.
-use mathlib.Core.Path.{_≡_, ap, ap₂, _∙_}
+use mathlib.Core.Path.{ap, _∙_}
 use mathlib.Core.List.{List, _++_}
 use Prim.Native.Nat.{ℕ}
 use borrow.Author.Needs.{needs}
-use Rattle.bits.specs.Bits.{unpack, pack}
-use Rattle.crc.specs.Crc.{crc}
+use Rattle.bits.specs.Bits.{unpack}
 use Rattle.control_writer.specs.Inner.Coded.{coded, coded-bytes}
 use Rattle.control_writer.proofs.q_bytes.Statement.{statement}
 use Rattle.control_writer.proofs.q_bytes.Tie as tie

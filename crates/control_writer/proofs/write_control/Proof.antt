@@ -1,17 +1,14 @@
--- `control_writer::write_control` meets its contract: each way out is a law of `Ways`; the bytes are those of the fields (`control-coded`).
+-- `control_writer::write_control` meets its contract: each way out is a law of `WaysOut`; the bytes are those of the fields (`control-coded`).
 -- Assumes nothing.
-use mathlib.Core.Path.{_≡_, sym, ap, ap₂, _∙_}
-use mathlib.Core.List.{List}
-use Prim.Native.Nat.{ℕ, _*_, _<_}
-use native.Mathlib.Omega.{arith}
+use mathlib.Core.Path.{_≡_, sym, ap, _∙_}
 use borrow.Author.Needs.{needs}
 use borrow.Author.Tests.{not-true, not-false}
 use lib.ListN.{length}
-use Rattle.control.specs.Channels.{framed}
-use Rattle.control.specs.Channels.Framed.{p-lt}
+use Rattle.outcome.specs.Buffer.Lengths.{same-lengths}
+use Rattle.control.specs.Channels.{pBit, framed}
 use Rattle.control.specs.Inner.FieldBytes.{fieldBytes}
 use Rattle.control_writer.specs.Inner.Coded.{control-coded}
-use Rattle.control_writer.proofs.Ways.{on-length, on-fields, on-done}
+use Rattle.control_writer.proofs.WaysOut.{on-length, on-fields, on-done}
 use Rattle.control_writer.proofs.write_control.Statement.{statement}
 use Rattle.control_writer.proofs.write_control.Tie as tie
 
@@ -34,22 +31,17 @@ returns-2 c =
     (sym (c .before .before .before .before .before .is-allowed .ensures) ∙ not-true _ (c .before .before .before .before .if2 .taken))
     (c .before .before .clear .ensures)
 
-p-bit-requires : tie.Need-p-bit-requires
-p-bit-requires c κs = search needs
-
 q-bytes-requires : tie.Need-q-bytes-requires
 q-bytes-requires c κs = search needs
 
-slice-aggregate-spread : tie.Need-slice-aggregate-spread
-slice-aggregate-spread c = search needs
-
 spread-requires : tie.Need-spread-requires
-spread-requires c κs =
-    let start = c .before .before .before .before .before .before .before .before in
-    let twelve : length (c .before .before .q-bytes .result) ≡ 12 = search needs in (
-      omega (arith, c .before .before .before .p-bit .ensures, p-lt (start .args .fields .flag)),
-      c .before .before .before .before .before .before .if1 .left ∙ sym (ap (λ (n : ℕ). 8 * n) twelve),
-    )
+spread-requires c κs = search needs
+
+slice-aggregate-copy : tie.Need-slice-aggregate-copy
+slice-aggregate-copy c = search needs
+
+copy-requires : tie.Need-copy-requires
+copy-requires c κs = search needs
 
 same-length-2 : tie.Need-same-length-2
 same-length-2 c = search needs
@@ -59,11 +51,13 @@ unfolding fieldBytes
 returns-3 c =
     let start = c .before .before .before .before .before .before .before .before .before .before .before in
     let f = start .args .fields in
-    on-done f _ (c .before .before .before .before .before .before .before .before .before .if1 .left) _
+    let spread = c .before .before .before .before .before .spread in
+    let l = c .before .before .before .before .before .before .before .before .before .if1 .left in
+    let long : length (spread .result) ≡ 96 = search needs in
+    on-done f _ l _
     (sym (c .before .before .before .before .before .before .before .before .is-allowed .ensures) ∙ not-false _ (c .before .before .before .before .before .before .before .if2 .left))
-    (c .before .before .spread .ensures
-    ∙ ap₂ framed (c .before .before .before .before .before .before .p-bit .ensures) (c .before .before .before .before .before .q-bytes .ensures)
-    ∙ control-coded f)
+    (same-lengths _ _ _ _ _ _ (c .before .before .copy .ensures) (long ∙ sym l)
+    ∙ spread .ensures ∙ ap (framed (pBit (f .flag))) (c .before .before .before .before .before .before .q-bytes .ensures) ∙ control-coded f)
 
 pub write-control-spec : {M : Type 1} → statement M
 write-control-spec =
@@ -74,9 +68,9 @@ write-control-spec =
     clear-requires
     same-length
     returns-2
-    p-bit-requires
     q-bytes-requires
-    slice-aggregate-spread
     spread-requires
+    slice-aggregate-copy
+    copy-requires
     same-length-2
     returns-3)

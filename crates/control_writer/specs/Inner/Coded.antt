@@ -1,10 +1,10 @@
 -- The bits of bytes with the CRC behind them.
 -- Assumes nothing.
-use mathlib.Core.Path.{_≡_, refl, sym, ap, ap₂, _∙_}
-use mathlib.Core.List.{List, [], _∷_, _++_}
-use Prim.Native.Nat.{ℕ, _+_, _*_, _<_}
+use mathlib.Core.Path.{_≡_, sym, ap, _∙_}
+use mathlib.Core.List.{List, _++_}
+use Prim.Native.Nat.{ℕ, _+_}
 use native.Mathlib.Omega.{arith}
-use lib.ListN.{length, getD, length-append}
+use lib.ListN.{length, getD}
 use lib.Seq.{ext-getD}
 use Rattle.outcome.specs.Table.{tabulated}
 use Rattle.outcome.specs.Table.Entries.{length-tabulated, tabulated-at}
@@ -13,7 +13,7 @@ use Rattle.bits.specs.Bits.Packed.{unpack-append, unpack-pack}
 use Rattle.crc.specs.Crc.{crc}
 use Rattle.crc.specs.Crc.Bits.{binary-unpack, length-crc, binary-crc}
 use Rattle.control.specs.declared.Control.{Control}
-use Rattle.control.specs.Channels.{fieldBits, qChannel, pBit, framed, controlBytes}
+use Rattle.control.specs.Channels.{qChannel, pBit, framed, controlBytes}
 use Rattle.control.specs.Inner.FieldBytes.{fieldBytes, field-bits}
 
 abbrev pub coded : List ℕ → List ℕ

@@ -3,7 +3,7 @@
 use mathlib.Core.Path.{_≡_, refl, sym, ap, _∙_}
 use mathlib.Core.List.{List}
 use Prim.Native.Nat.{ℕ}
-use Rattle.outcome.specs.Say.{Say, Outcome, outcome}
+use Rattle.outcome.specs.Say.{Outcome, outcome}
 use Rattle.control.specs.declared.Control.{Control}
 use Rattle.control_writer.specs.declared.ControlWritten.{ControlWritten}
 use Rattle.control_writer.specs.declared.ControlWritten.the-variants.{Done, WrongOutgoing, NotAllowed}

@@ -1,8 +1,8 @@
 -- `counting::left` meets its contract: the area tells where it ends, and no time in range lies behind that (`Areas`).
 -- Assumes nothing.
-use mathlib.Core.Path.{_≡_, sym, ap, _∙_}
+use mathlib.Core.Path.{sym, _∙_}
 use mathlib.Core.Bool.{true, false}
-use Prim.Native.Nat.{ℕ, _-_}
+use Prim.Native.Nat.{_-_}
 use native.Mathlib.Omega.{arith}
 use Rattle.counting.proofs.Areas.{left-of}
 use borrow.Author.Needs.{needs}

@@ -1,6 +1,6 @@
 -- The next address is one more in time, in the same area.
 -- Assumes nothing.
-use mathlib.Core.Path.{_≡_, refl, sym, ap, ap₂, subst, _∙_}
+use mathlib.Core.Path.{_≡_, refl, sym, ap, subst, _∙_}
 use mathlib.Core.Bool.{Bool, true, false, cond, _&&_, _||_}
 use Prim.Native.Nat.{ℕ, zero, suc, _+_, _-_, _*_, _/_, _%_, _<_, _≤_}
 use native.Mathlib.Omega.{arith}
@@ -11,7 +11,7 @@ use Rattle.digits.specs.Digits.{decimal, twoDigits}
 use Rattle.address.specs.Address.{inProgramArea, inLeadIn, inRange}
 use Rattle.address.specs.Elapsed.{minutes, elapsed}
 use Rattle.counting.specs.Count.{endOf, left, room, nextDigits, next, following, after}
-use Rattle.counting.specs.Count.Bytes.{value, and-both, Digits, digits-of, of-digits, More, digits-more}
+use Rattle.counting.specs.Count.Bytes.{value, and-both, Digits, digits-of, of-digits, digits-more}
 
 -- what an address in range is made of
 pub record Ranged (t : HeaderTime) : Type 0 where

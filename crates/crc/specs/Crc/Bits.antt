@@ -2,11 +2,10 @@
 -- Assumes nothing.
 use mathlib.Core.Path.{_≡_, refl, sym, ap, ap₂, _∙_}
 use mathlib.Core.List.{List, [], _∷_, _++_}
-use Prim.Native.Nat.{ℕ, zero, suc, _+_, _-_, _*_, _/_, _%_, _^_, _<_}
+use Prim.Native.Nat.{ℕ, suc, _+_, _-_, _*_, _/_, _%_, _^_, _<_}
 use native.Mathlib.Nat.{pow-suc, mul-assoc}
 use native.Mathlib.Omega.{arith}
-use lib.ListN.{length, replicate, length-append, length-replicate}
-use Rattle.outcome.specs.Bytes.{Bytes}
+use lib.ListN.{length, replicate}
 use Rattle.outcome.specs.Bytes.Kept.{bytes-nil, bytes-cons}
 use Rattle.bits.specs.Bits.{bitsOf, number, unpack, pack}
 use Rattle.bits.specs.Bits.Numbers.{bits-split, bits-low, bits-number, number-lt}
@@ -15,7 +14,7 @@ use Rattle.bits.specs.Binary.{Binary}
 use Rattle.bits.specs.Binary.Parts.{binary-append, binary-bits}
 use Rattle.division.specs.Polynomial.Lengths.{coefs-zeros}
 use Rattle.division.specs.Division.{divided, remainder, check}
-use Rattle.crc.specs.Crc.{generator, inverted, crc}
+use Rattle.crc.specs.Crc.{checkPolynomial, inverted, crc}
 use Rattle.crc.specs.Inner.Register.{Sixteen, steps, steps-append, divided-steps}
 
 -- ---- inverted bits
@@ -55,26 +54,26 @@ nothing : Sixteen (replicate 16 0)
 nothing = record { bits = coefs-zeros 16; long = refl }
 
 module _ (cs : List ℕ) (h : Binary cs) where
-  left : (number 0 (divided generator (replicate 16 0) (cs ++ replicate 16 0)) ≡ steps 0 (cs ++ replicate 16 0))
-      × Sixteen (divided generator (replicate 16 0) (cs ++ replicate 16 0))
+  left : (number 0 (divided checkPolynomial (replicate 16 0) (cs ++ replicate 16 0)) ≡ steps 0 (cs ++ replicate 16 0))
+      × Sixteen (divided checkPolynomial (replicate 16 0) (cs ++ replicate 16 0))
   left = divided-steps (replicate 16 0) (cs ++ replicate 16 0) nothing (binary-append cs (replicate 16 0) h (coefs-zeros 16))
 
   pub length-crc : length (crc cs) ≡ 16
   unfolding crc check remainder
-  length-crc = length-inverted (divided generator (replicate 16 0) (cs ++ replicate 16 0)) ∙ left .1 .long
+  length-crc = length-inverted (divided checkPolynomial (replicate 16 0) (cs ++ replicate 16 0)) ∙ left .1 .long
 
   -- the code's number
   pub number-crc : number 0 (crc cs) + steps (steps 0 cs) (replicate 16 0) ≡ 65535
   unfolding crc check remainder
   number-crc =
-      let r : List ℕ = divided generator (replicate 16 0) (cs ++ replicate 16 0) in
+      let r : List ℕ = divided checkPolynomial (replicate 16 0) (cs ++ replicate 16 0) in
       let e : number 0 (inverted r) + number 0 r + 1 ≡ (0 + 0 + 1) * 2 ^ 16
       = number-inverted 0 0 r (left .1 .bits) ∙ ap (λ (n : ℕ). (0 + 0 + 1) * 2 ^ n) (left .1 .long) in
       omega (arith, left .0 ∙ steps-append 0 cs (replicate 16 0))
 
   pub binary-crc : Binary (crc cs)
   unfolding crc
-  binary-crc = binary-inverted (check generator cs)
+  binary-crc = binary-inverted (check checkPolynomial cs)
 
   -- two bytes whose number is that of the CRC are the CRC
   pub bytes-crc : (s : ℕ) → s ≡ number 0 (crc cs) → s / 256 ∷ s % 256 ∷ [] ≡ pack 2 (crc cs)

@@ -8,7 +8,7 @@ use lib.ListN.{length, replicate}
 use Rattle.bits.specs.Binary.{Binary}
 use Rattle.division.specs.Division.{remainder, check}
 use Rattle.division.specs.Division.Check.{check-right, check-one, coefs-check}
-use Rattle.crc.specs.Crc.{generator, inverted, crc}
+use Rattle.crc.specs.Crc.{checkPolynomial, inverted, crc}
 use Rattle.crc.specs.Crc.Bits.{length-inverted, binary-inverted}
 
 inverted-back : (cs : List ℕ) → Binary cs → inverted (inverted cs) ≡ cs
@@ -18,17 +18,17 @@ inverted-back (c ∷ cs) h =
     let e : 1 - (1 - c) ≡ c = omega arith in
     λ i. e i ∷ inverted-back cs (h .1) i
 
-coefs-generator : Binary generator
-coefs-generator = search arith
+coefs-polynomial : Binary checkPolynomial
+coefs-polynomial = search arith
 
-pub crc-right : (bits : List ℕ) → remainder generator (bits ++ inverted (crc bits)) ≡ replicate 16 0
+pub crc-right : (bits : List ℕ) → remainder checkPolynomial (bits ++ inverted (crc bits)) ≡ replicate 16 0
 unfolding crc
 crc-right bits =
-    ap (λ (t : List ℕ). remainder generator (bits ++ t)) (inverted-back (check generator bits) (coefs-check 16 generator refl coefs-generator bits))
-    ∙ check-right 16 generator refl coefs-generator bits
+    ap (λ (t : List ℕ). remainder checkPolynomial (bits ++ t)) (inverted-back (check checkPolynomial bits) (coefs-check 16 checkPolynomial refl coefs-polynomial bits))
+    ∙ check-right 16 checkPolynomial refl coefs-polynomial bits
 
-pub crc-one : (bits t : List ℕ) → Binary t → length t ≡ 16 → remainder generator (bits ++ inverted t) ≡ replicate 16 0 → t ≡ crc bits
+pub crc-one : (bits t : List ℕ) → Binary t → length t ≡ 16 → remainder checkPolynomial (bits ++ inverted t) ≡ replicate 16 0 → t ≡ crc bits
 unfolding crc
 crc-one bits t h l z =
     sym (inverted-back t h)
-    ∙ ap inverted (check-one 16 generator refl coefs-generator bits (inverted t) (binary-inverted t) (length-inverted t ∙ l) z)
+    ∙ ap inverted (check-one 16 checkPolynomial refl coefs-polynomial bits (inverted t) (binary-inverted t) (length-inverted t ∙ l) z)

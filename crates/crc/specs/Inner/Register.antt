@@ -14,11 +14,11 @@ use Rattle.bits.specs.Bits.Packed.{unpack-append}
 use Rattle.bits.specs.Bits.Numbers.{number-append, number-shift, number-lt}
 use Rattle.bits.specs.Binary.{Binary}
 use Rattle.bits.specs.Binary.Parts.{binary-append}
-use Rattle.division.specs.Polynomial.{plus, scaled, powers}
-use Rattle.division.specs.Polynomial.Lengths.{coefs-plus, coefs-zeros, length-plus}
+use Rattle.division.specs.Polynomial.{plus, scaled}
+use Rattle.division.specs.Polynomial.Lengths.{coefs-plus, length-plus}
 use Rattle.division.specs.Polynomial.Numbers.{number-plus}
 use Rattle.division.specs.Division.{brought, divided}
-use Rattle.crc.specs.Crc.{generator}
+use Rattle.crc.specs.Crc.{checkPolynomial}
 
 -- one line of the division, and all its lines
 unfoldable pub step : ℕ → ℕ → ℕ
@@ -35,9 +35,9 @@ steps-append r (c ∷ cs) ds = steps-append (step r c) cs ds
 
 -- ---- one line
 
--- the generator without its highest coefficient
+-- the check polynomial without its highest coefficient
 lower : List ℕ
-lower = drop 1 generator
+lower = drop 1 checkPolynomial
 
 -- it is taken away once or not at all
 once : (h : ℕ) → h < 2 → (number 0 (scaled h lower) ≡ h * 0x1021) × Binary (scaled h lower)
@@ -47,7 +47,7 @@ once (suc zero) l = (refl, search arith)
 once (suc (suc h)) l = absurd (omega arith)
 
 module _ (h : ℕ) (t : List ℕ) (c : ℕ) where
-  brought-is : brought generator (h ∷ t) c ≡ plus (t ++ (c ∷ [])) (scaled h lower)
+  brought-is : brought checkPolynomial (h ∷ t) c ≡ plus (t ++ (c ∷ [])) (scaled h lower)
   unfolding brought lower
   brought-is = refl
 
@@ -56,10 +56,10 @@ module _ (h : ℕ) (t : List ℕ) (c : ℕ) where
     unfolding lower
     long = omega (arith, length-append t (c ∷ []))
 
-    pub length-brought : length (brought generator (h ∷ t) c) ≡ 16
+    pub length-brought : length (brought checkPolynomial (h ∷ t) c) ≡ 16
     length-brought = ap length brought-is ∙ length-plus (t ++ (c ∷ [])) (scaled h lower) long ∙ omega (arith, length-append t (c ∷ []))
 
-    pub number-brought : h < 2 → Binary t → c < 2 → number 0 (brought generator (h ∷ t) c) ≡ step (number 0 (h ∷ t)) c
+    pub number-brought : h < 2 → Binary t → c < 2 → number 0 (brought checkPolynomial (h ∷ t) c) ≡ step (number 0 (h ∷ t)) c
     unfolding step
     number-brought hh ht hc =
         let v : ℕ = number 0 (h ∷ t) in
@@ -83,7 +83,7 @@ pub record Sixteen (r : List ℕ) : Type 0 where
   pub bits : Binary r
   pub long : length r ≡ 16
 
-pub sixteen-brought : (r : List ℕ) (c : ℕ) → Sixteen r → Sixteen (brought generator r c)
+pub sixteen-brought : (r : List ℕ) (c : ℕ) → Sixteen r → Sixteen (brought checkPolynomial r c)
 sixteen-brought [] c s = absurd (omega (arith, s .long))
 sixteen-brought (h ∷ t) c s =
     record {
@@ -94,15 +94,15 @@ sixteen-brought (h ∷ t) c s =
     binary-of : {r : List ℕ} → r ≡ plus (t ++ (c ∷ [])) (scaled h lower) → Binary r
     binary-of e = rw e (coefs-plus (t ++ (c ∷ [])) (scaled h lower))
 
-pub brought-step : (r : List ℕ) (c : ℕ) → Sixteen r → c < 2 → number 0 (brought generator r c) ≡ step (number 0 r) c
+pub brought-step : (r : List ℕ) (c : ℕ) → Sixteen r → c < 2 → number 0 (brought checkPolynomial r c) ≡ step (number 0 r) c
 brought-step [] c s h = absurd (omega (arith, s .long))
 brought-step (h ∷ t) c s k = number-brought h t c (suc-inj (s .long)) (s .bits .0) (s .bits .1) k
 
-pub divided-steps : (r cs : List ℕ) → Sixteen r → Binary cs → (number 0 (divided generator r cs) ≡ steps (number 0 r) cs) × Sixteen (divided generator r cs)
+pub divided-steps : (r cs : List ℕ) → Sixteen r → Binary cs → (number 0 (divided checkPolynomial r cs) ≡ steps (number 0 r) cs) × Sixteen (divided checkPolynomial r cs)
 unfolding divided steps
 divided-steps r [] s h = (refl, s)
 divided-steps r (c ∷ cs) s h =
-    let rest = divided-steps (brought generator r c) cs (sixteen-brought r c s) (h .1) in
+    let rest = divided-steps (brought checkPolynomial r c) cs (sixteen-brought r c s) (h .1) in
     (rest .0 ∙ ap (λ (n : ℕ). steps n cs) (brought-step r c s (h .0)), rest .1)
 
 -- ---- a byte a turn

@@ -4,7 +4,7 @@ use mathlib.Core.Path.{_≡_, sym, ap, ap₂, subst, _∙_}
 use mathlib.Core.List.{List, _++_}
 use Prim.Native.Nat.{ℕ, _+_, _-_}
 use native.Mathlib.Omega.{arith}
-use lib.ListN.{length, take, drop, length-drop, take-append-drop}
+use lib.ListN.{take, drop, length-drop, take-append-drop}
 use lib.Seq.{take-add, drop-drop, length-take-le}
 use Rattle.outcome.specs.Bytes.Kept.{bytes-take, bytes-drop}
 use Rattle.codeword.specs.Code.{Codeword}
@@ -13,7 +13,7 @@ use Rattle.codeword.specs.Parity.One.{parity-end-one}
 use Rattle.frame_edc.specs.FrameEdc.{Divisible, edc}
 use Rattle.frame_edc.specs.FrameEdc.Right.{edc-one}
 use Rattle.data_frame.specs.declared.Fields.{Fields}
-use Rattle.data_frame.specs.DataFrame.{DataFrame, identification, copyright, copyrightIn, mainData}
+use Rattle.data_frame.specs.DataFrame.{DataFrame, identification, copyright}
 
 module _ {fields : Fields} {main frame : List ℕ} (d : DataFrame fields main frame) where
   -- the IED behind the ID

@@ -1,10 +1,10 @@
 -- The check coefficients: with those of `check` behind them some coefficients are divisible, and with no others.
 -- Assumes nothing.
-use mathlib.Core.Path.{_≡_, refl, sym, ap, ap₂, _∙_}
-use mathlib.Core.List.{List, [], _++_}
+use mathlib.Core.Path.{_≡_, sym, ap, ap₂, _∙_}
+use mathlib.Core.List.{List, _++_}
 use Prim.Native.Nat.{ℕ, suc, _+_, _-_, _≤_}
 use native.Mathlib.Omega.{arith}
-use lib.ListN.{length, replicate, length-append, length-replicate, replicate-append-replicate}
+use lib.ListN.{length, replicate, length-replicate, replicate-append-replicate}
 use Rattle.division.specs.Polynomial.{Coefficients, plus}
 use Rattle.division.specs.Polynomial.Lengths.{coefs-zeros}
 use Rattle.division.specs.Polynomial.Sums.{plus-comm, plus-zeros, zeros-plus, plus-self, plus-equal}

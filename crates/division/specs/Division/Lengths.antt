@@ -1,14 +1,14 @@
 -- A remainder has one coefficient fewer than the divisor, and they are 0 or 1.
 -- Assumes nothing.
-use mathlib.Core.Path.{_≡_, refl, sym, ap, _∙_}
+use mathlib.Core.Path.{_≡_, refl, sym, _∙_}
 use mathlib.Core.List.{List, [], _∷_, _++_}
 use Prim.Native.Nat.{ℕ, suc, _+_, _-_}
 use native.Mathlib.Omega.{arith}
-use lib.ListN.{length, drop, getD, replicate, length-append, length-drop, length-replicate}
+use lib.ListN.{length, getD, replicate, length-append, length-drop, length-replicate}
 use Rattle.bits.specs.Binary.Parts.{binary-drop}
 use Rattle.division.specs.Polynomial.{Coefficients, plus, scaled}
 use Rattle.division.specs.Polynomial.Lengths.{coefs-plus, coefs-zeros, length-plus, length-scaled}
-use Rattle.division.specs.Division.{brought, divided, remainder, check}
+use Rattle.division.specs.Division.{brought, divided, remainder}
 
 module _ (d : List ℕ) where
   pub coefs-brought : (r : List ℕ) (c : ℕ) → Coefficients (brought d r c)

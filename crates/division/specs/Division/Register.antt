@@ -1,7 +1,7 @@
 -- The remainder in a register of m + k bits, the highest power in the highest bit, into which m coefficients come down at once. With m = 1 that is a line
 -- of the division; with m = 8 a byte, and what the register's first byte brings about is an entry of a table.
 -- Assumes nothing.
-use mathlib.Core.Path.{_≡_, refl, sym, ap, ap₂, _∙_}
+use mathlib.Core.Path.{_≡_, sym, ap, ap₂, _∙_}
 use mathlib.Core.List.{List, _++_}
 use Prim.Native.Nat.{ℕ, suc, _+_, _*_, _/_, _%_, _^_, _<_}
 use native.Mathlib.Nat.{zero-mul, zero-add, mod-eq-of-lt}

@@ -3,16 +3,15 @@
 use mathlib.Core.Path.{_≡_, refl, sym, ap, ap₂, _∙_}
 use mathlib.Core.List.{List, [], _∷_, _++_, append-assoc, append-nil}
 use Prim.Native.Nat.{ℕ, zero, suc, _+_, _-_, _*_, _%_, _<_, _≤_}
-use native.Mathlib.Nat.{suc-ne-zero}
 use native.Mathlib.Omega.{arith}
-use lib.ListN.{length, take, drop, getD, replicate, length-append, length-replicate, length-drop, take-append-drop, replicate-append-replicate}
+use lib.ListN.{length, take, drop, getD, replicate, length-append, length-replicate, take-append-drop, replicate-append-replicate}
 use lib.Seq.{length-take-le, take-suc, take-all, getD-take}
 use Rattle.bits.specs.Binary.Parts.{binary-append, binary-take, binary-drop}
 use Rattle.division.specs.Polynomial.{Coefficients, plus, scaled, product}
-use Rattle.division.specs.Polynomial.Lengths.{coefs-zeros, coefs-plus, coefs-scaled, coefs-product, length-plus, length-scaled}
-use Rattle.division.specs.Polynomial.Sums.{plus-append, plus-assoc, plus-comm, plus-self, plus-zeros, zeros-plus, scaled-none}
+use Rattle.division.specs.Polynomial.Lengths.{coefs-zeros, coefs-scaled, coefs-product, length-plus, length-scaled}
+use Rattle.division.specs.Polynomial.Sums.{plus-append, plus-assoc, plus-comm, plus-self, plus-zeros, zeros-plus}
 use Rattle.division.specs.Division.{brought, divided, remainder}
-use Rattle.division.specs.Division.Lengths.{coefs-brought, coefs-remainder, length-brought, length-divided, remainder-append}
+use Rattle.division.specs.Division.Lengths.{coefs-brought, length-brought, remainder-append}
 use Rattle.division.specs.Division.Linear.{divided-plus, come-down}
 use Rattle.division.specs.Division.Check.{remainder-self}
 use Rattle.division.specs.Multiple.{Multiple}

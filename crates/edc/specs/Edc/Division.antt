@@ -2,9 +2,8 @@
 -- Assumes nothing.
 use mathlib.Core.Path.{_≡_, refl, sym, ap, ap₂, _∙_, subst}
 use mathlib.Core.List.{List, [], _∷_, _++_}
-use Prim.Native.Nat.{ℕ, _+_, _-_, _*_, _/_, _%_, _^_, _<_, _≤_}
-use native.Mathlib.Nat.{zero-add, mul-assoc}
-use lib.Pow.{pow-add}
+use Prim.Native.Nat.{ℕ, _+_, _-_, _*_, _/_, _%_, _^_, _<_}
+use native.Mathlib.Nat.{zero-add}
 use native.Mathlib.Omega.{arith}
 use lib.Bits.{bitXor, xor-block, xor-zero-r}
 use lib.ListN.{length, drop, replicate, length-append, length-replicate}
@@ -18,8 +17,9 @@ use Rattle.division.specs.Division.Lengths as by
 use Rattle.edc.specs.Polynomial.{divisor}
 use Rattle.edc.specs.Polynomial.Lengths.{coefs-divisor, coefs-remainder, length-divisor, length-remainder}
 use Rattle.edc.specs.Edc.{remainder}
-use Rattle.edc.specs.Bits.Numbers.{number-zeros, number-append, number-lt, number-plus, number-scaled, number-inj}
-use Rattle.edc.specs.Inner.Register.{feedback, step, steps, steps-zeros, steps-join, steps-split}
+use Rattle.edc.specs.Bits.Numbers.{number-zeros, number-append, number-lt, number-plus, number-scaled}
+use Rattle.edc.specs.Register.{feedback, step, steps}
+use Rattle.edc.specs.Register.Steps.{steps-zeros, steps-join, steps-split}
 
 -- ---- one line of the division is one step of the register
 

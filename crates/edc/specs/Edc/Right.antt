@@ -19,7 +19,7 @@ use Rattle.edc.specs.Polynomial.{divisor}
 use Rattle.edc.specs.Polynomial.Lengths.{coefs-bits, length-bits, bits-append, coefs-divisor, length-divisor}
 use Rattle.edc.specs.Edc.{remainder, edc, Divisible}
 use Rattle.edc.specs.Edc.Division.{remainder-word}
-use Rattle.edc.specs.Inner.Register.{steps}
+use Rattle.edc.specs.Register.{steps}
 
 -- ---- the register after 32 zeros more
 

@@ -7,7 +7,7 @@ use Prim.Native.Nat.{ℕ, zero, suc, _+_, _*_}
 use native.Mathlib.Omega.{arith}
 use borrow.Author.Tests.{ne-eqb}
 use lib.Dec.{eqb, eqb·suc-zero}
-use lib.ListN.{length, replicate}
+use lib.ListN.{replicate}
 use Rattle.division.specs.Polynomial.Zeros.{zero-is, is-zero}
 use Rattle.edc.specs.Bits.{bits, numberLowFirst}
 use Rattle.edc.specs.Edc.{remainder, isZero, Divisible}

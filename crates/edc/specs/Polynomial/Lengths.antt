@@ -7,7 +7,7 @@ use native.Mathlib.Omega.{arith}
 use lib.ListN.{length}
 use Rattle.xor.specs.Xor.Group.{bit-lt}
 use Rattle.bits.specs.Binary.Parts.{binary-append}
-use Rattle.division.specs.Polynomial.{Coefficients, product}
+use Rattle.division.specs.Polynomial.{Coefficients}
 use Rattle.division.specs.Polynomial.Lengths.{coefs-product}
 use Rattle.division.specs.Division.Lengths as by
 use Rattle.edc.specs.Bits.{bitsLowFirst, bits}

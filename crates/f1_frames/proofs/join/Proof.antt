@@ -2,8 +2,8 @@
 -- Assumes nothing.
 use mathlib.Core.Path.{sym, _∙_}
 use borrow.Author.Needs.{needs}
-use Rattle.entry.specs.Entry.Ways.{alike}
-use Rattle.f1_frames.specs.Exchange.{exchanged}
+use Rattle.entry.specs.Entry.WaysOut.{alike}
+use Rattle.pair_exchange.specs.Exchange.{exchanged}
 use Rattle.f1_frames.specs.Frames.{join}
 use Rattle.f1_frames.specs.Frames.Placed.{of-exchanged}
 use Rattle.f1_frames.proofs.join.Statement.{statement}

@@ -9,9 +9,9 @@ use lib.Seq.{length-take-le, take-at, drop-append-add, drop-drop, getD-take, get
 use Rattle.outcome.specs.Bytes.{Bytes}
 use Rattle.outcome.specs.Say.{done, outcome}
 use Rattle.outcome.specs.Table.Entries.{length-tabulated, tabulated-at}
-use Rattle.entry.specs.Entry.Ways.{taken-back}
-use Rattle.f1_frames.specs.Exchange.{exchanged, other}
-use Rattle.f1_frames.specs.Exchange.Pairs.{length-exchanged, exchanged-twice, exchanged-at, exchanged-append, bytes-exchanged}
+use Rattle.entry.specs.Entry.WaysOut.{taken-back}
+use Rattle.pair_exchange.specs.Exchange.{exchanged, other}
+use Rattle.pair_exchange.specs.Exchange.Pairs.{length-exchanged, exchanged-twice, exchanged-at, exchanged-append, bytes-exchanged}
 use Rattle.f1_frames.specs.Frames.{f1Frames, frame, byteIn, bytesOf, cut, join, cutting, joining}
 
 -- a frame has whole pairs, so that the frames together are exchanged as one

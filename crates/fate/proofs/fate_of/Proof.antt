@@ -1,7 +1,7 @@
--- `fate::fate_of` meets its contract: a refusal has its number, and what is handed out is one of `Ways`.
+-- `fate::fate_of` meets its contract: a refusal has its number, and what is handed out is one of `WaysOut`.
 -- Assumes nothing.
 use borrow.Author.Needs.{needs}
-use Rattle.fate.proofs.Ways.{on-clean, on-repaired}
+use Rattle.fate.proofs.WaysOut.{on-clean, on-repaired}
 use Rattle.fate.proofs.fate_of.Statement.{statement}
 use Rattle.fate.proofs.fate_of.Tie as tie
 

@@ -1,4 +1,4 @@
--- `finding::find` meets its contract: each way out is a law of `Ways`, whose premises are what the tests and the private functions said.
+-- `finding::find` meets its contract: each way out is a law of `WaysOut`, whose premises are what the tests and the private functions said.
 -- Assumes nothing.
 use mathlib.Core.Path.{sym, ap, _∙_}
 use Prim.Native.Nat.{ℕ}
@@ -8,7 +8,7 @@ use borrow.Author.Tests.{not-true, not-false}
 use lib.ListN.{length, replicate}
 use Rattle.outcome.specs.Say.{cleared}
 use Rattle.alignment.specs.Row.Counted.{row-whole, row-most}
-use Rattle.alignment.specs.Found.Ways.{room-is, on-incoming, on-outgoing, on-none, on-found}
+use Rattle.alignment.specs.Found.WaysOut.{room-is, on-incoming, on-outgoing, on-none, on-found}
 use Rattle.finding.proofs.Standing.{n-found}
 use Rattle.finding.proofs.find.Statement.{statement}
 use Rattle.finding.proofs.find.Tie as tie

@@ -2,7 +2,6 @@
 -- Assumes nothing.
 use Prim.Native.Nat.{_-_}
 use native.Mathlib.Omega.{arith}
-use borrow.Author.Needs.{needs}
 use lib.ListN.{length}
 use Rattle.frame_edc.proofs.Passed.{Passed, passed-none, passed-byte, passed-all}
 use Rattle.frame_edc.proofs.divide.Statement.{statement}

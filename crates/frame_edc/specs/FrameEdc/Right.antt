@@ -2,12 +2,12 @@
 -- Assumes nothing.
 use mathlib.Core.Path.{_≡_, refl, sym, ap, _∙_}
 use mathlib.Core.Bool.{true}
-use mathlib.Core.List.{List, [], _∷_, _++_}
-use Prim.Native.Nat.{ℕ, _*_, _≤_}
+use mathlib.Core.List.{List, _++_}
+use Prim.Native.Nat.{ℕ, _≤_}
 use native.Mathlib.Omega.{arith}
 use lib.ListN.{length, drop, replicate}
 use Rattle.outcome.specs.Bytes.{Bytes}
-use Rattle.bits.specs.Bits.{unpack, pack}
+use Rattle.bits.specs.Bits.{unpack}
 use Rattle.bits.specs.Bits.Packed.{length-unpack, unpack-append, packed, unpack-pack, length-pack}
 use Rattle.bits.specs.Binary.Parts.{binary-drop}
 use Rattle.division.specs.Polynomial.{Coefficients, isZero}

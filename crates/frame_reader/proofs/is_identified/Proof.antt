@@ -7,7 +7,7 @@ use Prim.Native.Nat.{ℕ}
 use native.Mathlib.Omega.{arith}
 use borrow.Author.Tests.{eq-eqb, ne-eqb}
 use lib.Dec.{eqb}
-use lib.ListN.{take, getD}
+use lib.ListN.{getD}
 use lib.Seq.{length-take-le}
 use Rattle.codeword.specs.Code.{sum, sums}
 use Rattle.codeword.specs.Nearest.{isCodeword}

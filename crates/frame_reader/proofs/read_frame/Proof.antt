@@ -1,6 +1,6 @@
--- `frame_reader::read_frame` meets its contract: each way out is a law of `Ways`.
+-- `frame_reader::read_frame` meets its contract: each way out is a law of `WaysOut`.
 -- Assumes nothing.
-use Rattle.frame_reader.proofs.Ways.{ways, on-done}
+use Rattle.frame_reader.proofs.WaysOut.{ways, on-done}
 use borrow.Author.Needs.{needs}
 use Rattle.frame_reader.proofs.read_frame.Statement.{statement}
 use Rattle.frame_reader.proofs.read_frame.Tie as tie

@@ -1,8 +1,8 @@
 -- Reading accepts exactly the Data Frames of clause 16, with their own fields and Main Data.
 -- Assumes nothing.
-use mathlib.Core.Path.{_≡_, refl, sym, ap, ap₂, subst, _∙_}
+use mathlib.Core.Path.{_≡_, refl, sym, ap, ap₂, _∙_}
 use mathlib.Core.Bool.{Bool, true, false}
-use mathlib.Core.List.{List, []}
+use mathlib.Core.List.{List}
 use Prim.Native.Nat.{ℕ}
 use native.Mathlib.Omega.{arith}
 use borrow.Author.Tests.{eqb-true}
@@ -10,7 +10,7 @@ use lib.Dec.{eqb}
 use lib.ListN.{length, take, getD}
 use lib.Seq.{getD-take}
 use Rattle.outcome.specs.Bytes.{Bytes}
-use Rattle.outcome.specs.Say.{Say, done, demand, Outcome, outcome}
+use Rattle.outcome.specs.Say.{Say, done, demand, outcome}
 use Rattle.outcome.specs.Say.Refusals.{never}
 use Rattle.codeword.specs.Nearest.{isCodeword}
 use Rattle.codeword.specs.Code.NearOne.{code-of-test, test-of-code}
@@ -18,10 +18,10 @@ use Rattle.division.specs.Polynomial.{isZero}
 use Rattle.frame_edc.specs.FrameEdc.{remainder}
 use Rattle.frame_edc.specs.FrameEdc.Right.{test-divisible, divisible-test}
 use Rattle.data_frame.specs.declared.Fields.{Fields}
-use Rattle.data_frame.specs.DataFrame.{DataFrame, information, identification, mainData, unreserved, fieldsOf, values}
+use Rattle.data_frame.specs.DataFrame.{DataFrame, information, mainData, unreserved, fieldsOf, values}
 use Rattle.data_frame.specs.DataFrame.Bits.{information-unreserved, fields-back, id-back, copyright-back}
-use Rattle.frame_reader.specs.Reading.{faults, says, reading}
-use Rattle.frame_reader.specs.Reading.Ways.{on-done}
+use Rattle.frame_reader.specs.Reading.{says, reading}
+use Rattle.frame_reader.specs.Reading.WaysOut.{on-done}
 
 -- a demand that is passed was met
 demanded : (t : Bool) (n : ℕ) (rest : Say) {v : List ℕ} → demand t n rest ≡ done v → (t ≡ true) × (rest ≡ done v)

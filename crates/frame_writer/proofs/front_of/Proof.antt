@@ -1,7 +1,7 @@
 -- `frame_writer::front_of` meets its contract: the two bytes of parity behind the ID make a codeword of it.
 -- Assumes nothing.
 use mathlib.Core.Path.{_≡_, ap, subst}
-use mathlib.Core.List.{List, [], _∷_, _++_}
+use mathlib.Core.List.{[], _∷_, _++_}
 use Prim.Native.Nat.{ℕ}
 use Rattle.codeword.specs.declared.TwoBytes.{TwoBytes}
 use Rattle.codeword.specs.Pair.{pair}

@@ -1,7 +1,7 @@
--- `frame_writer::write_frame` meets its contract: each way out is a law of `Ways`.
+-- `frame_writer::write_frame` meets its contract: each way out is a law of `WaysOut`.
 -- Assumes nothing.
 use Rattle.frame_writer.proofs.Making.{length-front}
-use Rattle.frame_writer.proofs.Ways.{ways, on-done}
+use Rattle.frame_writer.proofs.WaysOut.{ways, on-done}
 use borrow.Author.Needs.{needs}
 use Rattle.frame_writer.proofs.write_frame.Statement.{statement}
 use Rattle.frame_writer.proofs.write_frame.Tie as tie

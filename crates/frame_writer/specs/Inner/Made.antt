@@ -3,7 +3,6 @@
 use mathlib.Core.Path.{_≡_}
 use mathlib.Core.List.{List, _++_}
 use Prim.Native.Nat.{ℕ}
-use lib.ListN.{length}
 use Rattle.codeword.specs.Parity.{Parity}
 use Rattle.frame_edc.specs.FrameEdc.{edc}
 use Rattle.data_frame.specs.declared.Fields.{Fields}

@@ -1,13 +1,10 @@
 -- `generator::divide` meets its contract. In both loops the register has the sums of the bytes passed (`Divided`), and four bytes more, or one,
 -- keep it so.
 -- Assumes nothing.
-use mathlib.Core.Path.{ap, _∙_}
-use mathlib.Core.List.{List}
-use Prim.Native.Nat.{ℕ, _-_}
+use Prim.Native.Nat.{_-_}
 use native.Mathlib.Omega.{arith}
 use borrow.Author.Needs.{needs}
 use lib.ListN.{length}
-use Rattle.generator.specs.Inner.Register.{entries}
 use Rattle.generator.proofs.Divided.{Divided, divided-none, divided-word, divided-byte, divided-all}
 use Rattle.generator.proofs.divide.Statement.{statement}
 use Rattle.generator.proofs.divide.Tie as tie
@@ -30,8 +27,8 @@ loop-holds c = divided-none _
 sub-loop : tie.Need-sub-loop Inv-loop μ-loop Inv-loop2 μ-loop2
 sub-loop c = search needs
 
-word-at-requires : tie.Need-word-at-requires Inv-loop μ-loop Inv-loop2 μ-loop2
-word-at-requires c κs = omega arith
+number-at-requires : tie.Need-number-at-requires Inv-loop μ-loop Inv-loop2 μ-loop2
+number-at-requires c κs = search needs
 
 look-up-requires : tie.Need-look-up-requires Inv-loop μ-loop Inv-loop2 μ-loop2
 look-up-requires c κs = search needs
@@ -45,8 +42,8 @@ loop-less c = omega arith
 loop-again : tie.Need-loop-again Inv-loop μ-loop Inv-loop2 μ-loop2
 loop-again c =
     let l = c .before .before .before in
-    divided-word (λ k. l .before .shared-slice-known .given k .fits) (l .loop .inv) _ _ (omega arith) (c .before .word-at .ensures)
-    (c .look-up .ensures ∙ ap (λ (t : List ℕ). entries t (l .loop .r)) (l .before .before .pre))
+    divided-word _ (l .before .before .pre) (λ k. l .before .shared-slice-known .given k .fits) (l .loop .inv) _ _ (search needs) (search needs) (omega arith) (c .before .number-at .ensures)
+    (c .look-up .ensures)
 
 loop2-holds : tie.Need-loop2-holds Inv-loop μ-loop Inv-loop2 μ-loop2
 loop2-holds c = c .before .loop .inv
@@ -67,10 +64,10 @@ loop2-less c = omega arith
 loop2-again : tie.Need-loop2-again Inv-loop μ-loop Inv-loop2 μ-loop2
 loop2-again c =
     let l = c .before .before in
-    divided-byte (λ k. c .before .shared-slice-known2 .given k .fits) (l .before .loop2 .inv) _ (l .loop2-test .taken) (c .take-byte .ensures)
+    divided-byte _ (l .before .before .before .before .before .pre) (λ k. c .before .shared-slice-known2 .given k .fits) (l .before .loop2 .inv) _ (search needs) (l .loop2-test .taken) (c .take-byte .ensures)
 
 returns : tie.Need-returns Inv-loop μ-loop Inv-loop2 μ-loop2
-returns c = divided-all (λ k. c .before .before .before .before .shared-slice-known .given k .fits) (c .before .loop2 .inv) (c .loop2-test .left)
+returns c = divided-all (c .before .loop2 .inv) (c .loop2-test .left)
 
 pub divide-spec : {M : Type 1} → statement M
 divide-spec =
@@ -82,7 +79,7 @@ divide-spec =
     μ-loop2
     loop-holds
     sub-loop
-    word-at-requires
+    number-at-requires
     look-up-requires
     add-i
     loop-less

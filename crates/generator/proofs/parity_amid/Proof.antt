@@ -11,8 +11,8 @@ divide-requires c κs = search needs
 look-up-requires : tie.Need-look-up-requires
 look-up-requires c κs = search needs
 
-bytes-requires : tie.Need-bytes-requires
-bytes-requires c κs = search needs
+bytes-of-requires : tie.Need-bytes-of-requires
+bytes-of-requires c κs = search needs
 
 shared-slice-read-t9 : tie.Need-shared-slice-read-t9
 shared-slice-read-t9 c = search needs
@@ -44,7 +44,7 @@ returns c =
     let d = b .before .before in
     let s = d .before .before in
     amid (s .args .w .now) (λ k. d .before .shared-slice-known .given k .fits) (d .divide .result) (d .divide .ensures) (s .pre .2) (s .args .down .now) (s .pre .1)
-    (b .before .look-up .ensures) (b .bytes .ensures)
+    (b .before .look-up .ensures) (b .bytes-of .ensures)
 
 pub parity-amid-spec : {M : Type 1} → statement M
 parity-amid-spec =
@@ -52,7 +52,7 @@ parity-amid-spec =
     (tie.spec
     divide-requires
     look-up-requires
-    bytes-requires
+    bytes-of-requires
     shared-slice-read-t9
     array-read-t12
     shared-slice-read-t15

@@ -1,7 +1,7 @@
--- `judge::judge` meets its contract: each way out is a law of `Ways`.
+-- `judge::judge` meets its contract: each way out is a law of `WaysOut`.
 -- Assumes nothing.
 use borrow.Author.Needs.{needs}
-use Rattle.judge.proofs.Ways.{ways}
+use Rattle.judge.proofs.WaysOut.{ways}
 use Rattle.judge.proofs.judge.Statement.{statement}
 use Rattle.judge.proofs.judge.Tie as tie
 

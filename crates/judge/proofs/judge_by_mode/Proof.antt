@@ -1,7 +1,7 @@
--- `judge::judge_by_mode` meets its contract: each mode is a law of `Ways`.
+-- `judge::judge_by_mode` meets its contract: each mode is a law of `WaysOut`.
 -- Assumes nothing.
 use borrow.Author.Needs.{needs}
-use Rattle.judge.proofs.Ways.{in-mode00, in-mode01, in-mode02}
+use Rattle.judge.proofs.WaysOut.{in-mode00, in-mode01, in-mode02}
 use Rattle.judge.proofs.judge_by_mode.Statement.{statement}
 use Rattle.judge.proofs.judge_by_mode.Tie as tie
 

@@ -1,7 +1,7 @@
--- `judge::judge_mode01` meets its contract: each way out is a law of `Ways`.
+-- `judge::judge_mode01` meets its contract: each way out is a law of `WaysOut`.
 -- Assumes nothing.
 use borrow.Author.Needs.{needs}
-use Rattle.judge.proofs.Ways.{covered-long, ways01}
+use Rattle.judge.proofs.WaysOut.{covered-long, ways01}
 use Rattle.judge.proofs.judge_mode01.Statement.{statement}
 use Rattle.judge.proofs.judge_mode01.Tie as tie
 

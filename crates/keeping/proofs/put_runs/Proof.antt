@@ -4,7 +4,7 @@ use Prim.Native.Nat.{ℕ, _-_, _/_}
 use mathlib.Core.Path.{sym, ap, _∙_}
 use borrow.Author.Needs.{needs}
 use lib.ListN.{length, length-replicate}
-use Rattle.keeping.proofs.Writing.{Writing, writing-none, writing-long, writing-room, writing-more, writing-all}
+use Rattle.keeping.proofs.Writing.{Writing, writing-none, writing-long, writing-more, writing-all}
 use Rattle.keeping.proofs.put_runs.Statement.{statement}
 use Rattle.keeping.proofs.put_runs.Tie as tie
 
@@ -24,7 +24,7 @@ ticks-requires : tie.Need-ticks-requires Inv-loop μ-loop
 ticks-requires c κs = search needs
 
 put-number-requires : tie.Need-put-number-requires Inv-loop μ-loop
-put-number-requires c κs = search writing-room
+put-number-requires c κs = search needs
 
 add-i : tie.Need-add-i Inv-loop μ-loop
 add-i c = search needs

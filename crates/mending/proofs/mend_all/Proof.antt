@@ -3,8 +3,9 @@
 -- Assumes nothing.
 use Prim.Native.Nat.{_-_}
 use native.Mathlib.Omega.{arith}
-use mathlib.Core.Path.{_∙_}
+use borrow.Author.Needs.{needs}
 use lib.ListN.{length}
+use Rattle.rspc.specs.Either.Bytewise.{words-le}
 use Rattle.mending.proofs.Passing.{Passing, passing-none, passing-more}
 use Rattle.mending.proofs.AllPassed.{passing-all}
 use Rattle.mending.proofs.mend_all.Statement.{statement}
@@ -19,6 +20,12 @@ abbrev μ-loop : tie.MeasureT-loop
 loop-holds : tie.Need-loop-holds Inv-loop μ-loop
 loop-holds c = passing-none _ _ (c .before .before .before .pre .0)
 
+-- there are at most 86 of them
+cast-mend : tie.Need-cast-mend Inv-loop μ-loop
+cast-mend c =
+    let start = c .before .before .before .before .before .before in
+    omega (arith, start .pre .1 .long-0, words-le (start .args .parity))
+
 shared-slice-read-mend : tie.Need-shared-slice-read-mend Inv-loop μ-loop
 shared-slice-read-mend c = omega arith
 
@@ -28,10 +35,7 @@ shared-slice-read-mend-2 c =
     omega (arith, sums .long-0, sums .long-1)
 
 mend-requires : tie.Need-mend-requires Inv-loop μ-loop
-mend-requires c κs =
-    let p = c .before .before .before .before .loop .inv in
-    let sums = c .before .before .before .before .before .before .before .before .pre .1 in
-    (p .long ∙ p .sector, omega (arith, sums .long-0))
+mend-requires c κs = search needs
 
 add-k : tie.Need-add-k Inv-loop μ-loop
 add-k c = omega arith
@@ -62,6 +66,7 @@ mend-all-spec =
     Inv-loop
     μ-loop
     loop-holds
+    cast-mend
     shared-slice-read-mend
     shared-slice-read-mend-2
     mend-requires

@@ -6,6 +6,7 @@ use Prim.Native.Nat.{ℕ}
 use native.Mathlib.Omega.{arith}
 use Rattle.rspc.specs.declared.Parity.the-variants.{Q}
 use Rattle.rspc.specs.Place.One.{of-sector, of-other}
+use Rattle.q_rows.specs.Laid.WaysOut.{all-laid}
 use Rattle.mending.proofs.Rows.{InRows, q-rows, swept-sums}
 use borrow.Author.Needs.{needs}
 use Rattle.mending.proofs.q_pass.Statement.{statement}
@@ -42,7 +43,7 @@ mend-all-requires : tie.Need-mend-all-requires
 mend-all-requires c κs =
     let laid = c .before .before .before .before .before .before .before .before .before .before in
     let long = laid .before .before .before .if1 .left in
-    let rows = subst (λ (l : List ℕ). InRows Q (laid .before .before .before .before .before .args .s .now) l) (sym (laid .lay-rows .ensures)) (q-rows _ long) in
+    let rows = subst (λ (l : List ℕ). InRows Q (laid .before .before .before .before .before .args .s .now) l) (sym (all-laid long refl (laid .lay-rows .ensures))) (q-rows _ long) in
     (long, swept-sums Q rows refl refl (omega arith) (c .before .before .before .before .before .sums .ensures))
 
 same-length : tie.Need-same-length

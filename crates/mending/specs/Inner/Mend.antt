@@ -1,29 +1,13 @@
--- How a codeword is mended in place: by its sums, at the byte that its fault names.
+-- The sums by which the codewords of a parity are mended.
 -- Assumes nothing.
 use mathlib.Core.Path.{_≡_}
-use mathlib.Core.Bool.{Bool, true, false}
 use mathlib.Core.List.{List}
 use Prim.Native.Nat.{ℕ, _<_}
-use lib.Bits.{bitXor}
-use lib.ListN.{length, getD, set}
+use lib.ListN.{length, getD}
 use Rattle.codeword.specs.Code.{sum}
-use Rattle.codeword.specs.declared.Fault.{Fault}
-use Rattle.codeword.specs.declared.Fault.the-variants.{Clean, At, Lost}
 use Rattle.rspc.specs.declared.Parity.{Parity}
-use Rattle.rspc.specs.Either.{wordsOf, wordOf, placeOf}
+use Rattle.rspc.specs.Either.{wordsOf, wordOf}
 use Rattle.rspc.specs.Columns.{inColumn}
-
--- whether it is explained by at most one wrong byte
-abbrev pub explained : Fault → Bool
-explained Clean = true
-explained (At i e) = true
-explained Lost = false
-
--- the Sector with codeword n mended
-abbrev pub mendedAt : Parity → List ℕ → ℕ → Fault → List ℕ
-mendedAt parity s n Clean = s
-mendedAt parity s n (At i e) = set s (placeOf parity n i) (bitXor (getD s (placeOf parity n i) 0) e)
-mendedAt parity s n Lost = s
 
 -- s0 and s1 are the sums of the codewords of s, each in its column
 pub record SumsOf (parity : Parity) (s s0 s1 : List ℕ) : Type 0 where

@@ -5,10 +5,10 @@
 use mathlib.Core.Path.{_≡_, refl, sym, ap, ap₂, _∙_, subst}
 use mathlib.Core.Bool.{Bool, true, false, cond, not, _&&_}
 use mathlib.Core.List.{List, [], _++_, append-assoc, append-nil}
-use Prim.Native.Nat.{ℕ, _+_, _%_, _<_}
+use Prim.Native.Nat.{ℕ, _+_, _<_}
 use native.Mathlib.Nat.{zero-add}
 use native.Mathlib.Omega.{arith}
-use borrow.Author.Tests.{eqb-true, eqb-false}
+use borrow.Author.Tests.{eqb-true}
 use lib.Dec.{T, eqb, eqb→eq}
 use lib.ListN.{getD}
 use Rattle.outcome.specs.Table.{allBelow}
@@ -17,7 +17,7 @@ use Rattle.bits.specs.Binary.{Binary}
 use Rattle.bits.specs.Binary.Parts.{binary-bits}
 use Rattle.bits.specs.Bits.{bitsOf}
 use Rattle.bits.specs.Bits.Numbers.{length-bits}
-use Rattle.words.specs.RunRule.{gaps, runs}
+use Rattle.words.specs.RunRule.{runs}
 use Rattle.words.specs.Symbols.{symbols, bitsAt}
 use Rattle.words.specs.Words.{words, sync0}
 use Rattle.merging.specs.Automaton.{broken, step, steps, live, shown, start22, StateOf}

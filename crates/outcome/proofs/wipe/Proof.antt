@@ -1,7 +1,7 @@
 -- `outcome::wipe` meets its contract: `cleared` goes by the same test as the code.
 -- Assumes nothing.
 use Prim.Native.Nat.{ℕ}
-use mathlib.Core.Path.{_≡_, sym, ap, _∙_}
+use mathlib.Core.Path.{sym, ap, _∙_}
 use borrow.Author.Needs.{needs}
 use lib.ListN.{replicate}
 use Rattle.outcome.specs.Say.Refusals.{cleared-right, cleared-wrong}

@@ -1,11 +1,10 @@
 -- A slice of which a part was lent as `&mut` and has come back.
 -- Assumes nothing.
-use mathlib.Core.Path.{_≡_, ap, _∙_, sym}
+use mathlib.Core.Path.{_≡_, ap, _∙_}
 use mathlib.Core.List.{List, _++_, append-nil}
 use Prim.Native.Nat.{ℕ, _+_, _-_, _≤_}
-use native.Mathlib.Omega.{arith}
 use lib.ListN.{length, take, drop}
-use lib.Seq.{drop-length, take-length, drop-drop}
+use lib.Seq.{drop-length}
 use borrow.Rule.Slice.PartMut.{putMid, post-is}
 
 -- the part from a up to e

@@ -4,7 +4,7 @@ use borrow.Author.Needs.{needs}
 use Prim.Native.Nat.{_-_, _/_}
 use native.Mathlib.Omega.{arith}
 use lib.ListN.{length}
-use Rattle.replay.proofs.Searching.{Counting, counting-none, counting-within, bits-few, counting-more, counting-all}
+use Rattle.replay.proofs.Counting.{Counting, counting-none, counting-within, bits-few, counting-more, counting-all}
 use Rattle.replay.proofs.frames_from.Statement.{statement}
 use Rattle.replay.proofs.frames_from.Tie as tie
 

@@ -5,7 +5,7 @@ use Prim.Native.Nat.{ℕ, _-_}
 use native.Mathlib.Omega.{arith}
 use lib.ListN.{length, drop, length-replicate}
 use Rattle.replaying.specs.Replay.{channel}
-use Rattle.replay.specs.Inner.Runs.{runs}
+use Rattle.legal_runs.specs.EdgeBits.{runs}
 use Rattle.replay.proofs.Drawing.{Drawing, drawing-none, few-edges, drawing-room, b-some, drawing-more, drawing-all}
 use borrow.Author.Needs.{needs}
 use Rattle.replay.proofs.put_frames.Statement.{statement}

@@ -1,8 +1,9 @@
--- `replay::replay` meets its contract: each way out is a law of `Ways`, whose premises are what the tests and the private functions said.
+-- `replay::replay` meets its contract: each way out is a law of `WaysOut`, whose premises are what the tests and the private functions said.
 -- Assumes nothing.
 use native.Mathlib.Omega.{arith}
-use Rattle.replay.proofs.Legality.{illegal-within}
-use Rattle.replay.proofs.Ways.{Right, Clear, Begun, is-clear, is-begun, on-odd, on-long, on-room, on-illegal, all-legal, on-nowhere, edge-there, frames-due, frames-few, on-done}
+use Rattle.legal_runs.specs.EdgeBits.AllLegal.{illegal-within}
+use Rattle.header_search.specs.HeaderEdge.Begins.{edge-within}
+use Rattle.replay.proofs.WaysOut.{Right, Clear, Begun, is-clear, is-begun, on-odd, on-long, on-room, on-illegal, on-nowhere, edge-there, frames-due, frames-few, on-done}
 use borrow.Author.Needs.{needs}
 use Rattle.replay.proofs.replay.Statement.{statement}
 use Rattle.replay.proofs.replay.Tie as tie
@@ -45,30 +46,25 @@ right c = record { wiped = c .before .before .before .before .before .wipe .ensu
 clear : (c : tie.Else4) → Clear (c .before .before .before .before .before .before .before .before .before .before .before .args .capture .now) (c .before .before .before .before .before .before .before .before .before .before .before .args .frames .now) (c .before .before .before .before .before .before .before .wipe .last .0)
 clear c = is-clear (right (c .before .before)) (c .before .first-illegal .result) (c .before .first-illegal .ensures) (c .if4 .left)
 
-begun : (c : tie.After-known-told) → Begun (c .before .before .before .before .before .before .before .before .before .before .before .before .before .before .before .args .capture .now) (c .before .before .before .before .before .before .before .before .before .before .before .before .before .before .before .args .frames .now) (c .before .before .before .before .before .before .before .before .before .before .before .wipe .last .0) (c .before .start .given .0 .0)
-begun c =
-    let asked = c .before .before .before in
-    is-begun (clear (asked .before)) (asked .first-header .result) (asked .first-header .ensures) (c .before .start .given .0 .0) (c .before .start .given .1)
+begun : (c : tie.Else5) → Begun (c .before .before .before .before .before .before .before .before .before .before .before .before .before .args .capture .now) (c .before .before .before .before .before .before .before .before .before .before .before .before .before .args .frames .now) (c .before .before .before .before .before .before .before .before .before .wipe .last .0) (c .before .header-edge .result)
+begun c = is-begun (clear (c .before .before)) (c .before .header-edge .result) (c .before .header-edge .ensures) (c .if5 .left)
 
 -- ---- the needs
 
 returns-4 : tie.Need-returns-4
 returns-4 c = on-illegal (right (c .before .before)) _ (c .before .first-illegal .ensures) (c .if4 .taken)
 
-first-header-requires : tie.Need-first-header-requires
-first-header-requires c κs = all-legal (clear c)
+header-edge-requires : tie.Need-header-edge-requires
+header-edge-requires c κs = search needs
 
-enum-known-start : tie.Need-enum-known-start
-enum-known-start c = search needs
-
-enum-told : tie.Need-enum-told
-enum-told c = search needs
+add-if5 : tie.Need-add-if5
+add-if5 c = omega (arith, edge-within _ _ (c .header-edge .ensures))
 
 same-length-5 : tie.Need-same-length-5
 same-length-5 c = search needs
 
 returns-5 : tie.Need-returns-5
-returns-5 c = on-nowhere (clear (c .before .before .before)) _ (c .before .before .first-header .ensures) (c .enum-told .given .1)
+returns-5 c = on-nowhere (clear (c .before .before)) _ (c .before .header-edge .ensures) (c .if5 .taken)
 
 frames-from-requires : tie.Need-frames-from-requires
 frames-from-requires c κs = edge-there (begun c)
@@ -79,11 +75,11 @@ mul-put-frames c = omega (arith, frames-few (begun (c .before)) _ (c .frames-fro
 put-frames-requires : tie.Need-put-frames-requires
 put-frames-requires c κs = frames-due (begun (c .before .before)) _ (c .before .frames-from .ensures)
 
-mul-t13 : tie.Need-mul-t13
-mul-t13 c = omega (arith, frames-few (begun (c .before .before .before .before .before)) _ (c .before .before .before .before .frames-from .ensures))
+mul-t12 : tie.Need-mul-t12
+mul-t12 c = omega (arith, frames-few (begun (c .before .before .before .before .before)) _ (c .before .before .before .before .frames-from .ensures))
 
-add-t10 : tie.Need-add-t10
-add-t10 c = omega (arith, frames-few (begun (c .before .before .before .before .before)) _ (c .before .before .before .before .frames-from .ensures))
+add-t9 : tie.Need-add-t9
+add-t9 c = omega (arith, frames-few (begun (c .before .before .before .before .before)) _ (c .before .before .before .before .frames-from .ensures))
 
 same-length-6 : tie.Need-same-length-6
 same-length-6 c = search needs
@@ -107,15 +103,14 @@ replay-spec =
     add-if4
     same-length-4
     returns-4
-    first-header-requires
-    enum-known-start
-    enum-told
+    header-edge-requires
+    add-if5
     same-length-5
     returns-5
     frames-from-requires
     mul-put-frames
     put-frames-requires
-    mul-t13
-    add-t10
+    mul-t12
+    add-t9
     same-length-6
     returns-6)

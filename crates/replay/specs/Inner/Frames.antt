@@ -6,7 +6,14 @@ use Prim.Native.Nat.{ℕ, _-_, _≤_}
 use lib.ListN.{length, take, drop, replicate}
 use Rattle.bits.specs.Bits.{unpack}
 use Rattle.replaying.specs.Replay.{channel}
-use Rattle.replay.specs.Inner.Runs.{runs, EdgeThere}
+use Rattle.replaying.specs.Replay.Sizes.{Legal}
+use Rattle.legal_runs.specs.EdgeBits.{runs}
+
+-- a capture of legal runs with an edge k
+pub record EdgeThere (capture : List ℕ) (k : ℕ) : Type 0 where
+  pub short : length capture ≤ 65536
+  pub legal : Legal (runs capture)
+  pub within : k ≤ length (runs capture)
 
 pub record FramesDue (capture : List ℕ) (k end : ℕ) (out : List ℕ) : Type 0 where
   pub there : EdgeThere capture k

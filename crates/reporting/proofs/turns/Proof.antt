@@ -7,7 +7,7 @@ use Prim.Native.Nat.{ℕ, _≤_, _-_}
 use native.Mathlib.Omega.{arith}
 use borrow.Author.Needs.{needs}
 use lib.ListN.{length}
-use Rattle.text.specs.Counting.{largest}
+use Rattle.tally.specs.Counting.{largest}
 use Rattle.standing.specs.Standing.{isOver}
 use Rattle.reporting.specs.Run.{Turning}
 use Rattle.reporting.proofs.Steps.{turned-over}

@@ -6,9 +6,9 @@ use mathlib.Core.List.{List}
 use Prim.Native.Nat.{ℕ, suc, _-_, _*_, _/_, _≤_, _<_}
 use lib.ListN.{length}
 use Rattle.batch.specs.Sectors.{sectorAt}
-use Rattle.text.specs.declared.Counts.{Counts}
-use Rattle.text.specs.declared.Fate.{Fate}
-use Rattle.text.specs.Counting.{largest, countedWith}
+use Rattle.tally.specs.declared.Counts.{Counts}
+use Rattle.tally.specs.declared.Fate.{Fate}
+use Rattle.tally.specs.Counting.{largest, countedWith}
 use Rattle.fate.specs.Fated.{Fated}
 use Rattle.reading.specs.declared.Filled.{Filled}
 use Rattle.reading.specs.Reading.{Fills}

@@ -5,10 +5,10 @@ use mathlib.Core.List.{List, [], _∷_, _++_}
 use Prim.Native.Nat.{ℕ, _+_, _<_}
 use native.Mathlib.Omega.{arith}
 use lib.ListN.{length, length-append}
-use Rattle.text.specs.declared.Counts.{Counts}
-use Rattle.text.specs.declared.Fate.{Fate}
-use Rattle.text.specs.Counting.{largest, noneCounted, countedWith}
-use Rattle.text.specs.Counting.Room.{Room, counted-right}
+use Rattle.tally.specs.declared.Counts.{Counts}
+use Rattle.tally.specs.declared.Fate.{Fate}
+use Rattle.tally.specs.Counting.{largest, noneCounted, countedWith}
+use Rattle.text.specs.Report.Room.{Room, counted-right}
 use Rattle.text.specs.Report.{isClean, isRepaired, isRefused, howMany}
 use Rattle.text.specs.Report.Counts.{counts-add-up}
 use Rattle.fate.specs.Fated.{Fated}

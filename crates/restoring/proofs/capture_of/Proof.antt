@@ -1,7 +1,7 @@
--- `restoring::capture_of` meets its contract: each way out is a law of `Ways`.
+-- `restoring::capture_of` meets its contract: each way out is a law of `WaysOut`.
 -- Assumes nothing.
 use borrow.Author.Needs.{needs}
-use Rattle.restoring.proofs.Ways.{on-long, on-room, is-ready, on-none, on-done}
+use Rattle.restoring.proofs.WaysOut.{on-long, on-room, is-ready, on-none, on-done}
 use Rattle.restoring.proofs.capture_of.Statement.{statement}
 use Rattle.restoring.proofs.capture_of.Tie as tie
 

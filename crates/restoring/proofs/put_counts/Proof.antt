@@ -7,7 +7,7 @@ use native.Mathlib.Omega.{arith}
 use borrow.Author.Needs.{needs}
 use lib.ListN.{length, length-replicate}
 use Rattle.restoring.specs.Inner.Read.{Ready}
-use Rattle.restoring.proofs.Standing.{says-number, says-none}
+use Rattle.number_reader.specs.Leads.Says.{says-number, says-none}
 use Rattle.restoring.proofs.Reading.{Reading, reading-none, reading-long, reading-on, reading-room, reading-more, on-malformed, on-many, on-end}
 use Rattle.restoring.proofs.put_counts.Statement.{statement}
 use Rattle.restoring.proofs.put_counts.Tie as tie

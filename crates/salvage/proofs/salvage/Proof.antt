@@ -1,7 +1,7 @@
--- `salvage::salvage` meets its contract: each way out is a law of `Ways`.
+-- `salvage::salvage` meets its contract: each way out is a law of `WaysOut`.
 -- Assumes nothing.
 use native.Mathlib.Omega.{arith}
-use Rattle.salvage.proofs.Ways.{in-range, on-incoming, on-sector, on-list, on-passes, on-work}
+use Rattle.salvage.proofs.WaysOut.{in-range, on-incoming, on-sector, on-list, on-passes, on-work}
 use borrow.Author.Needs.{needs}
 use Rattle.salvage.proofs.salvage.Statement.{statement}
 use Rattle.salvage.proofs.salvage.Tie as tie

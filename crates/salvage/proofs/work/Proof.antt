@@ -1,10 +1,9 @@
--- `salvage::work` meets its contract: each way out is a law of `Ways`.
+-- `salvage::work` meets its contract: each way out is a law of `WaysOut`.
 -- Assumes nothing.
 use mathlib.Core.Path.{sym, ap, _∙_}
 use lib.ListN.{length}
 use Rattle.sector.specs.Layout.Zeros.{length-zeros}
-use Rattle.salvage.proofs.Searching.{copied}
-use Rattle.salvage.proofs.Ways.{worked-none, worked-some}
+use Rattle.salvage.proofs.WaysOut.{copied, worked-none, worked-some}
 use borrow.Author.Needs.{needs}
 use Rattle.salvage.proofs.work.Statement.{statement}
 use Rattle.salvage.proofs.work.Tie as tie
@@ -42,9 +41,9 @@ returns c =
     let copy = call .before .before .before .before .before in
     let blank = copy .before .before in
     let start = blank .before .before .before .before in
-    worked-none (start .args .received .now) (copy .copy .last .1 .0) (call .search .last .1 .0) (start .args .passes) (call .search .result)
+    worked-none (start .args .received .now) (copy .copy .last .1 .0) _ _ (call .search .last .1 .0) (start .args .passes) (call .search .result) (start .pre .0)
     (copied _ (blank .blank .result) (copy .copy .last .1 .0) (copy .copy .result) (start .pre .0 ∙ sym (ap length (blank .blank .ensures) ∙ length-zeros 2352)) (copy .copy .ensures))
-    (call .search .ensures) _ _ (c .enum-told .given .1)
+    (call .before .before .before .blank2 .ensures) (call .search .ensures) _ _ (c .enum-told .given .1)
 
 slice-aggregate-copy-2 : tie.Need-slice-aggregate-copy-2
 slice-aggregate-copy-2 c = search needs
@@ -73,9 +72,9 @@ returns-2 c =
     let copy = call .before .before .before .before .before in
     let blank = copy .before .before in
     let start = blank .before .before .before .before in
-    worked-some (start .args .received .now) (copy .copy .last .1 .0) (call .search .last .1 .0) (start .args .passes) (call .search .result)
+    worked-some (start .args .received .now) (copy .copy .last .1 .0) _ _ (call .search .last .1 .0) (start .args .passes) (call .search .result) (start .pre .0)
     (copied _ (blank .blank .result) (copy .copy .last .1 .0) (copy .copy .result) (start .pre .0 ∙ sym (ap length (blank .blank .ensures) ∙ length-zeros 2352)) (copy .copy .ensures))
-    (call .search .ensures) _ (listed .list-changes .result) (handed .copy2 .result) (some .found .given .1) (start .pre .0) (start .pre .1)
+    (call .before .before .before .blank2 .ensures) (call .search .ensures) _ (listed .list-changes .result) (handed .copy2 .result) (some .found .given .1) (start .pre .1)
     (handed .copy2 .ensures) (listed .list-changes .ensures)
 
 pub work-spec : {M : Type 1} → statement M

@@ -1,7 +1,7 @@
 -- `scramble` meets its contract: each way out is a law of `Entry`, whose premises are what the tests and `put_scrambled` said.
 -- Assumes nothing.
 use borrow.Author.Needs.{needs}
-use Rattle.entry.specs.Entry.Ways.{on-incoming, on-outgoing, on-done}
+use Rattle.entry.specs.Entry.WaysOut.{on-incoming, on-outgoing, on-done}
 use Rattle.scrambling.specs.Scramble.{scrambled}
 use Rattle.scrambling.proofs.scramble.Statement.{statement}
 use Rattle.scrambling.proofs.scramble.Tie as tie

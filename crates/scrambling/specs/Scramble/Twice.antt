@@ -13,7 +13,7 @@ use Rattle.outcome.specs.Bytes.Kept.{bytes-append, bytes-take, bytes-drop}
 use Rattle.outcome.specs.Say.{done, outcome}
 use Rattle.xor.specs.Added.{added}
 use Rattle.xor.specs.Added.Places.{length-added, added-at, added-twice, bytes-added}
-use Rattle.entry.specs.Entry.Ways.{taken-back}
+use Rattle.entry.specs.Entry.WaysOut.{taken-back}
 use Rattle.sequence.specs.Sequence.Follows.{length-sequence, sequence-at, bytes-sequence}
 use Rattle.sequence.specs.Sequence.{byteAt, sequence}
 use Rattle.scrambling.specs.Scramble.{scrambled, scrambling}

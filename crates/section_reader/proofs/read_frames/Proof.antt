@@ -1,13 +1,11 @@
--- `read_frames` meets its contract. The invariant: the frames before f are in both buffers (`FramesRead`); one that is read fills its places
--- (`frames-read`), and one that is lost does too (`frames-lost`).
+-- `read_frames` meets its contract. The invariant: the frames before f are in both buffers (`FramesRead`); one that is taken fills its places
+-- (`frames-more`).
 -- Assumes nothing.
 use mathlib.Core.Path.{sym, _∙_}
-use Prim.Native.Nat.{ℕ, _+_, _-_, _<_}
-use mir.Syntax.{w64}
-use mir.Val.{Fits}
+use Prim.Native.Nat.{_-_}
 use native.Mathlib.Omega.{arith}
 use borrow.Author.Needs.{needs}
-use Rattle.section_reader.proofs.FramesRead.{FramesRead, frames-none, frames-long, frames-room, frames-read, missed-long, missed-room, frames-lost, frames-all}
+use Rattle.section_reader.proofs.FramesRead.{FramesRead, frames-none, frames-long, frames-room, frames-more, frames-all}
 use Rattle.section_reader.proofs.read_frames.Statement.{statement}
 use Rattle.section_reader.proofs.read_frames.Tie as tie
 
@@ -16,13 +14,6 @@ Inv-loop channel bytes₀ marks₀ table guide f₀ bytes marks f = FramesRead c
 
 abbrev μ-loop : tie.MeasureT-loop
 μ-loop channel bytes₀ marks₀ table guide f₀ bytes marks f = 98 - f
-
--- there is a next frame, and fewer are to come
-next-fits : (f : ℕ) → f < 98 → Fits w64 (f + 1)
-next-fits f h = record { fits = omega arith }
-
-fewer : (f : ℕ) → f < 98 → 98 - (f + 1) < 98 - f
-fewer f h = omega arith
 
 all-words-requires : tie.Need-all-words-requires Inv-loop μ-loop
 all-words-requires c κs = search needs
@@ -38,32 +29,32 @@ loop-holds c =
 mul-at : tie.Need-mul-at Inv-loop μ-loop
 mul-at c = search needs
 
-add-read-frame : tie.Need-add-read-frame Inv-loop μ-loop
-add-read-frame c = search needs
+add-take-frame : tie.Need-add-take-frame Inv-loop μ-loop
+add-take-frame c = search needs
 
-sub-read-frame : tie.Need-sub-read-frame Inv-loop μ-loop
-sub-read-frame c = search needs
+sub-take-frame : tie.Need-sub-take-frame Inv-loop μ-loop
+sub-take-frame c = search needs
 
-part-read-frame-start : tie.Need-part-read-frame-start Inv-loop μ-loop
-part-read-frame-start c = search needs
+part-take-frame-start : tie.Need-part-take-frame-start Inv-loop μ-loop
+part-take-frame-start c = search needs
 
-part-read-frame-end : tie.Need-part-read-frame-end Inv-loop μ-loop
-part-read-frame-end c = omega (arith, frames-long (c .before .before .before .loop .inv) .0)
+part-take-frame-end : tie.Need-part-take-frame-end Inv-loop μ-loop
+part-take-frame-end c = omega (arith, frames-long (c .before .before .before .loop .inv) .0)
 
-add-read-frame-2 : tie.Need-add-read-frame-2 Inv-loop μ-loop
-add-read-frame-2 c = search needs
+add-take-frame-2 : tie.Need-add-take-frame-2 Inv-loop μ-loop
+add-take-frame-2 c = search needs
 
-sub-read-frame-2 : tie.Need-sub-read-frame-2 Inv-loop μ-loop
-sub-read-frame-2 c = search needs
+sub-take-frame-2 : tie.Need-sub-take-frame-2 Inv-loop μ-loop
+sub-take-frame-2 c = search needs
 
-part-read-frame-start-2 : tie.Need-part-read-frame-start-2 Inv-loop μ-loop
-part-read-frame-start-2 c = search needs
+part-take-frame-start-2 : tie.Need-part-take-frame-start-2 Inv-loop μ-loop
+part-take-frame-start-2 c = search needs
 
-part-read-frame-end-2 : tie.Need-part-read-frame-end-2 Inv-loop μ-loop
-part-read-frame-end-2 c = omega (arith, frames-long (c .before .before .before .before .loop .inv) .1)
+part-take-frame-end-2 : tie.Need-part-take-frame-end-2 Inv-loop μ-loop
+part-take-frame-end-2 c = omega (arith, frames-long (c .before .before .before .before .loop .inv) .1)
 
-read-frame-requires : tie.Need-read-frame-requires Inv-loop μ-loop
-read-frame-requires c κs =
+take-frame-requires : tie.Need-take-frame-requires Inv-loop μ-loop
+take-frame-requires c κs =
     let t = c .before .before .before .before in
     let l = t .before in
     let room = frames-room (l .loop .inv) (t .loop-test .taken) in
@@ -76,71 +67,14 @@ read-frame-requires c κs =
       room-marks = room .1;
     }
 
-enum-told : tie.Need-enum-told Inv-loop μ-loop
-enum-told c = search needs
-
-enum-told-2 : tie.Need-enum-told-2 Inv-loop μ-loop
-enum-told-2 c = search needs
-
-add-lose-frame : tie.Need-add-lose-frame Inv-loop μ-loop
-add-lose-frame c = search needs
-
-sub-lose-frame : tie.Need-sub-lose-frame Inv-loop μ-loop
-sub-lose-frame c = search needs
-
-part-lose-frame-start : tie.Need-part-lose-frame-start Inv-loop μ-loop
-part-lose-frame-start c = search needs
-
-part-lose-frame-end : tie.Need-part-lose-frame-end Inv-loop μ-loop
-part-lose-frame-end c =
-    let r = c .before .before .before .before .before .before in
-    let t = r .before .before .before .before .before in
-    omega (arith, missed-long (t .before .loop .inv) (t .loop-test .taken) (r .read-frame .result) (r .read-frame .ensures) (c .enum-told2 .given .1) .0)
-
-add-lose-frame-2 : tie.Need-add-lose-frame-2 Inv-loop μ-loop
-add-lose-frame-2 c = search needs
-
-sub-lose-frame-2 : tie.Need-sub-lose-frame-2 Inv-loop μ-loop
-sub-lose-frame-2 c = search needs
-
-part-lose-frame-start-2 : tie.Need-part-lose-frame-start-2 Inv-loop μ-loop
-part-lose-frame-start-2 c = search needs
-
-part-lose-frame-end-2 : tie.Need-part-lose-frame-end-2 Inv-loop μ-loop
-part-lose-frame-end-2 c =
-    let r = c .before .before .before .before .before .before .before in
-    let t = r .before .before .before .before .before in
-    omega (arith, missed-long (t .before .loop .inv) (t .loop-test .taken) (r .read-frame .result) (r .read-frame .ensures) (c .before .enum-told2 .given .1) .1)
-
-lose-frame-requires : tie.Need-lose-frame-requires Inv-loop μ-loop
-lose-frame-requires c κs =
-    let r = c .before .before .before .before .before .before .before .before in
-    let t = r .before .before .before .before .before in
-    missed-room (t .before .loop .inv) (t .loop-test .taken) (r .read-frame .result) (r .read-frame .ensures) (c .before .before .enum-told2 .given .1)
-
-add-f : tie.Need-add-f Inv-loop μ-loop
-add-f c = next-fits _ (c .before .before .before .before .before .before .before .before .before .before .before .before .before .before .before .before .before .before .loop-test .taken)
-
 loop-less : tie.Need-loop-less Inv-loop μ-loop
-loop-less c = fewer _ (c .before .before .before .before .before .before .before .before .before .before .before .before .before .before .before .before .before .before .loop-test .taken)
+loop-less c = omega (arith, c .before .before .before .before .take-frame .ensures .next-is, c .before .before .before .before .before .before .before .before .before .loop-test .taken)
 
 loop-again : tie.Need-loop-again Inv-loop μ-loop
 loop-again c =
-    let r = c .before .before .before .before .before .before .before .before .before .before .before .before .before in
+    let r = c .before .before .before .before in
     let t = r .before .before .before .before .before in
-    frames-lost (t .before .loop .inv) (t .loop-test .taken) (r .read-frame .result) (r .read-frame .ensures) (c .before .before .before .before .before .before .before .enum-told2 .given .1) _ _ (c .before .before .before .before .lose-frame .ensures .0) (c .before .before .before .before .lose-frame .ensures .1)
-
-add-f-2 : tie.Need-add-f-2 Inv-loop μ-loop
-add-f-2 c = search needs
-
-loop-less-2 : tie.Need-loop-less-2 Inv-loop μ-loop
-loop-less-2 c = search needs
-
-loop-again-2 : tie.Need-loop-again-2 Inv-loop μ-loop
-loop-again-2 c =
-    let r = c .before .before .before .before .before .before in
-    let t = r .before .before .before .before .before in
-    frames-read (t .before .loop .inv) (t .loop-test .taken) (r .read-frame .result) (r .read-frame .ensures) (c .enum-told .given .1)
+    frames-more (t .before .loop .inv) (t .loop-test .taken) _ _ _ (r .take-frame .ensures)
 
 same-length : tie.Need-same-length Inv-loop μ-loop
 same-length c = frames-long (c .before .loop .inv) .0 ∙ sym (c .before .before .before .before .before .before .before .pre .1)
@@ -161,32 +95,17 @@ read-frames-spec =
     guide-requires
     loop-holds
     mul-at
-    add-read-frame
-    sub-read-frame
-    part-read-frame-start
-    part-read-frame-end
-    add-read-frame-2
-    sub-read-frame-2
-    part-read-frame-start-2
-    part-read-frame-end-2
-    read-frame-requires
-    enum-told
-    enum-told-2
-    add-lose-frame
-    sub-lose-frame
-    part-lose-frame-start
-    part-lose-frame-end
-    add-lose-frame-2
-    sub-lose-frame-2
-    part-lose-frame-start-2
-    part-lose-frame-end-2
-    lose-frame-requires
-    add-f
+    add-take-frame
+    sub-take-frame
+    part-take-frame-start
+    part-take-frame-end
+    add-take-frame-2
+    sub-take-frame-2
+    part-take-frame-start-2
+    part-take-frame-end-2
+    take-frame-requires
     loop-less
     loop-again
-    add-f-2
-    loop-less-2
-    loop-again-2
     same-length
     same-length-2
     returns)

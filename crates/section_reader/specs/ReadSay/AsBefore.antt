@@ -6,7 +6,7 @@ use mathlib.Core.List.{List}
 use Prim.Native.Nat.{ℕ, _<_}
 use Rattle.outcome.specs.Say.{leaves}
 use Rattle.bits.specs.Bits.{unpack}
-use Rattle.section_reader.specs.Reading.{headless}
+use Rattle.channel_frame.specs.ChannelFrame.{headless}
 use Rattle.section_reader.specs.Reading.WordByWord.{bytesOfWords, marksOfWords, bytes-as-before, marks-as-before}
 use Rattle.section_reader.specs.ReadSay.{readOut, readSay, sectionRead}
 

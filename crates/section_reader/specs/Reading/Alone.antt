@@ -1,56 +1,23 @@
 -- What a scratch costs: the 33 bytes of a frame and their marks depend on its own 588 bits, and on no other frame's.
 -- Assumes nothing.
-use mathlib.Core.Path.{_≡_, sym, ap, ap₂, _∙_}
-use mathlib.Core.Bool.{Bool, cond, not}
-use mathlib.Core.List.{List, [], _∷_}
-use Prim.Native.Nat.{ℕ, zero, suc, _+_, _*_, _≤_, _<_}
-use native.Mathlib.Omega.{arith}
-use lib.Dec.{eqb}
+use mathlib.Core.Path.{_≡_, sym, _∙_}
+use mathlib.Core.List.{List}
+use Prim.Native.Nat.{ℕ, _*_, _<_}
 use lib.ListN.{take, drop}
-use lib.Seq.{drop-drop, take-nil, take-take}
 use Rattle.outcome.specs.Table.Entries.{tabulated-same}
-use Rattle.bits.specs.Bits.{number}
-use Rattle.words.specs.Words.{byteOf}
-use Rattle.section_reader.specs.Reading.{fieldAt, frameBits, headless, wordRead, byteFor, markFor, frameByte, frameMark, bytesRead, marksRead}
+use Rattle.channel_frame.specs.ChannelFrame.{frameBits, frameByte, frameMark}
+use Rattle.channel_frame.specs.ChannelFrame.Own.{same-byte, same-mark}
+use Rattle.section_reader.specs.Reading.{bytesRead, marksRead}
 use Rattle.section_reader.specs.Reading.Places.{bytes-of-frame, marks-of-frame}
-
--- a field that lies within the first m bits
-within : (k n m : ℕ) (l : List ℕ) → k + n ≤ m → take n (drop k (take m l)) ≡ take n (drop k l)
-within zero n m l h = take-take n m l (omega arith)
-within (suc k) n m [] h = ap (λ (t : List ℕ). take n (drop (suc k) t)) (take-nil m)
-within (suc k) n zero (x ∷ l) h = absurd (omega arith)
-within (suc k) n (suc m) (x ∷ l) h = within k n m l (omega arith)
-
--- a field of frame f is one of the frame's own bits
-own-field : (bits : List ℕ) (f k n : ℕ) → k + n ≤ 588 → fieldAt bits (588 * f + k) n ≡ fieldAt (frameBits bits f) k n
-own-field bits f k n h =
-    ap (λ (l : List ℕ). number 0 (take n l)) (sym (drop-drop k (588 * f) bits)) ∙ ap (number 0) (sym (within k n 588 (drop (588 * f) bits) h))
 
 -- two Sections' bits that are the same in frame f
 module _ (a b : List ℕ) (f : ℕ) (same : frameBits a f ≡ frameBits b f) where
-  same-field : (k n : ℕ) → k + n ≤ 588 → fieldAt a (588 * f + k) n ≡ fieldAt b (588 * f + k) n
-  same-field k n h = own-field a f k n h ∙ ap (λ (l : List ℕ). fieldAt l k n) same ∙ sym (own-field b f k n h)
-
-  same-header : headless a f ≡ headless b f
-  same-header =
-      let e : 588 * f + 0 ≡ 588 * f = omega arith in
-      ap (λ (v : ℕ). not (eqb v 8392706)) (ap (λ (p : ℕ). fieldAt a p 24) (sym e) ∙ same-field 0 24 (omega arith) ∙ ap (λ (p : ℕ). fieldAt b p 24) e)
-
-  same-word : (i : ℕ) → i < 33 → wordRead a f i ≡ wordRead b f i
-  same-word i h =
-      let e : 588 * f + (27 + 17 * i) ≡ 588 * f + 27 + 17 * i = omega arith in
-      ap (λ (p : ℕ). fieldAt a p 14) (sym e) ∙ same-field (27 + 17 * i) 14 (omega arith) ∙ ap (λ (p : ℕ). fieldAt b p 14) e
-
   -- they are read to the same 33 bytes of frame f, whatever stands in all other frames
   pub bytes-alone : f < 98 → take 33 (drop (33 * f) (bytesRead a)) ≡ take 33 (drop (33 * f) (bytesRead b))
   bytes-alone h =
-      sym (bytes-of-frame a f h)
-      ∙ tabulated-same (frameByte a f) (frameByte b f) 33 (λ i l. ap₂ (λ (t : Bool) (w : ℕ). cond t 0 (byteFor (byteOf w))) same-header (same-word i l))
-      ∙ bytes-of-frame b f h
+      sym (bytes-of-frame a f h) ∙ tabulated-same (frameByte a f) (frameByte b f) 33 (λ i l. same-byte a b f same i l) ∙ bytes-of-frame b f h
 
   -- and to the same 33 marks
   pub marks-alone : f < 98 → take 33 (drop (33 * f) (marksRead a)) ≡ take 33 (drop (33 * f) (marksRead b))
   marks-alone h =
-      sym (marks-of-frame a f h)
-      ∙ tabulated-same (frameMark a f) (frameMark b f) 33 (λ i l. ap₂ (λ (t : Bool) (w : ℕ). cond t 4 (markFor (byteOf w) w i)) same-header (same-word i l))
-      ∙ marks-of-frame b f h
+      sym (marks-of-frame a f h) ∙ tabulated-same (frameMark a f) (frameMark b f) 33 (λ i l. same-mark a b f same i l) ∙ marks-of-frame b f h

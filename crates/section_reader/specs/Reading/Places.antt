@@ -8,7 +8,8 @@ use lib.ListN.{length, take, drop, length-take, length-drop}
 use lib.Seq.{ext-getD, getD-take, getD-drop}
 use Rattle.outcome.specs.Table.{tabulated}
 use Rattle.outcome.specs.Table.Entries.{tabulated-at, length-tabulated}
-use Rattle.section_reader.specs.Reading.{frameByte, frameMark, byteRead, markRead, bytesRead, marksRead}
+use Rattle.channel_frame.specs.ChannelFrame.{frameByte, frameMark}
+use Rattle.section_reader.specs.Reading.{byteRead, markRead, bytesRead, marksRead}
 
 -- 98 rows of 33, one after the other: row f is the part from place 33 * f on
 row-part : (rule : ℕ → ℕ → ℕ) (f : ℕ) → f < 98 → tabulated (rule f) 0 33 ≡ take 33 (drop (33 * f) (tabulated (λ k. rule (k / 33) (k % 33)) 0 3234))

@@ -8,7 +8,9 @@ use native.Mathlib.Omega.{arith}
 use lib.ListN.{take, drop}
 use Rattle.outcome.specs.Table.{tabulated}
 use Rattle.outcome.specs.Table.Entries.{tabulated-same}
-use Rattle.section_reader.specs.Reading.{headless, wordByte, wordMark, frameByte, frameMark, byteRead, markRead, bytesRead, marksRead}
+use Rattle.channel_frame.specs.ChannelFrame.{headless, wordByte, wordMark, frameByte, frameMark}
+use Rattle.channel_frame.specs.ChannelFrame.Standing.{byte-standing, mark-standing}
+use Rattle.section_reader.specs.Reading.{byteRead, markRead, bytesRead, marksRead}
 use Rattle.section_reader.specs.Reading.Places.{bytes-of-frame, marks-of-frame}
 
 -- the bytes of all words, with no regard to Sync Headers: what reading gave before mark 4, where all 98 stood
@@ -20,21 +22,13 @@ abbrev pub marksOfWords : List ℕ → List ℕ
 marksOfWords bits = tabulated (λ k. wordMark bits (k / 33) (k % 33)) 0 3234
 
 module _ (bits : List ℕ) (f : ℕ) (stands : headless bits f ≡ false) where
-  -- a frame whose Sync Header stands gives the bytes of its words
-  pub byte-standing : (i : ℕ) → frameByte bits f i ≡ wordByte bits f i
-  byte-standing i = rw stands
+  -- a frame whose Sync Header stands gives the bytes of its words in its 33 places of the Section
+  pub bytes-standing : f < 98 → take 33 (drop (33 * f) (bytesRead bits)) ≡ tabulated (wordByte bits f) 0 33
+  bytes-standing h = sym (bytes-of-frame bits f h) ∙ tabulated-same (frameByte bits f) (wordByte bits f) 33 (λ i _. byte-standing bits f stands i)
 
   -- and their marks
-  pub mark-standing : (i : ℕ) → frameMark bits f i ≡ wordMark bits f i
-  mark-standing i = rw stands
-
-  -- the bytes, in its 33 places of the Section
-  pub bytes-standing : f < 98 → take 33 (drop (33 * f) (bytesRead bits)) ≡ tabulated (wordByte bits f) 0 33
-  bytes-standing h = sym (bytes-of-frame bits f h) ∙ tabulated-same (frameByte bits f) (wordByte bits f) 33 (λ i _. byte-standing i)
-
-  -- and the marks
   pub marks-standing : f < 98 → take 33 (drop (33 * f) (marksRead bits)) ≡ tabulated (wordMark bits f) 0 33
-  marks-standing h = sym (marks-of-frame bits f h) ∙ tabulated-same (frameMark bits f) (wordMark bits f) 33 (λ i _. mark-standing i)
+  marks-standing h = sym (marks-of-frame bits f h) ∙ tabulated-same (frameMark bits f) (wordMark bits f) 33 (λ i _. mark-standing bits f stands i)
 
 module _ (bits : List ℕ) (all : (f : ℕ) → f < 98 → headless bits f ≡ false) where
   -- where all 98 stand the bytes are as before

@@ -8,7 +8,7 @@ use borrow.Author.Tests.{lt-ltb}
 use lib.Dec.{leb, leb→le}
 use lib.IntN.{ℤ, pos, negsuc, natAbs, subℕ}
 use Rattle.outcome.specs.Table.Entries.{and-left, and-right, of-true}
-use Rattle.choosing.specs.Traces.{Within}
+use Rattle.traces.specs.Traces.{Within}
 use Rattle.section_state.specs.Carried.{mostSections, sectionBits, levelRight, possible, above, below, levelNow, beginning, dsvThen, farthest}
 
 possible-dsv : (dsv level : ℤ) (sections : ℕ) → possible dsv level sections ≡ true → natAbs dsv ≤ sectionBits * sections

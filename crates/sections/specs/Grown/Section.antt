@@ -15,7 +15,7 @@ use Rattle.merging.specs.Rule.{header, allowed}
 use Rattle.merging.specs.Dsv.Levels.{level-append, ups-append, downs-append}
 use Rattle.section_state.specs.Carried.{sectionBits}
 use Rattle.section_writer.specs.declared.SectionWriter.{SectionWriter}
-use Rattle.section_writer.specs.Section.{wordAt, frameWords, withWords, withFrame, withFrames, sectionAfter}
+use Rattle.section_frames.specs.Section.{wordAt, frameWords, withWords, withFrame, withFrames, sectionAfter}
 use Rattle.section_writer.specs.WriteSay.{section}
 use Rattle.sections.specs.Stream.{atStart}
 use Rattle.sections.specs.Grown.{Grown}

@@ -11,9 +11,9 @@ use Rattle.bits.specs.Bits.{bitsOf, number}
 use Rattle.bits.specs.Bits.Numbers.{length-bits, number-bits}
 use Rattle.merging.specs.Chosen.{SoFar, dsvAfter, beforeWord, withWord}
 use Rattle.merging.specs.Rule.{allowed}
-use Rattle.section_reader.specs.Reading.{fieldAt}
-use Rattle.section_reader.specs.Reading.Fields.{field-keep}
-use Rattle.section_writer.specs.Section.{withWords}
+use Rattle.fields.specs.Fields.{fieldAt}
+use Rattle.fields.specs.Fields.Parts.{field-keep}
+use Rattle.section_frames.specs.Section.{withWords}
 use Rattle.merging.specs.Chosen.ThreeBits.{word-three}
 use Rattle.sections.specs.Grown.{Grown}
 use Rattle.sections.specs.Grown.Section.{grown-word, grown-words}

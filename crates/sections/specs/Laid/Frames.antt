@@ -14,8 +14,9 @@ use Rattle.outcome.specs.Table.Entries.{tabulated-at}
 use Rattle.words.specs.Words.Facts.{word-14}
 use Rattle.merging.specs.Chosen.{SoFar, withHeader, withTail}
 use Rattle.section_writer.specs.declared.SectionWriter.{SectionWriter}
-use Rattle.section_reader.specs.Reading.{fieldAt, headless, wordRead}
-use Rattle.section_writer.specs.Section.{wordAt, frameWords, withWords, withFrame, withFrames, sectionAfter}
+use Rattle.fields.specs.Fields.{fieldAt}
+use Rattle.channel_frame.specs.ChannelFrame.{headless, wordRead}
+use Rattle.section_frames.specs.Section.{wordAt, frameWords, withWords, withFrame, withFrames, sectionAfter}
 use Rattle.section_writer.specs.WriteSay.{section}
 use Rattle.sections.specs.Stream.{atStart}
 use Rattle.sections.specs.Grown.{Grown}

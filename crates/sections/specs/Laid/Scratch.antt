@@ -7,7 +7,8 @@ use lib.ListN.{take, drop}
 use Rattle.outcome.specs.Bytes.{Bytes}
 use Rattle.section_writer.specs.declared.SectionWriter.{SectionWriter}
 use Rattle.section_writer.specs.WriteSay.{section}
-use Rattle.section_reader.specs.Reading.{frameBits, bytesRead, marksRead}
+use Rattle.channel_frame.specs.ChannelFrame.{frameBits}
+use Rattle.section_reader.specs.Reading.{bytesRead, marksRead}
 use Rattle.section_reader.specs.Reading.Alone.{bytes-alone, marks-alone}
 use Rattle.sections.specs.Laid.{laidBytes, laidMarks}
 use Rattle.sections.specs.Laid.ThereAndBack.{bytes-back, marks-back}

@@ -20,9 +20,10 @@ use Rattle.bits.specs.Binary.{Binary}
 use Rattle.section_state.specs.Carried.{mostSections}
 use Rattle.section_writer.specs.declared.SectionWriter.{SectionWriter}
 use Rattle.section_reader.specs.ReadSay.{readSay, sectionRead}
-use Rattle.section_reader.specs.Reading.{byteFor, markFor, byteRead, markRead, bytesRead, marksRead}
-use Rattle.section_reader.specs.Reading.WordByWord.{byte-standing, mark-standing}
-use Rattle.section_writer.specs.Section.{wordAt}
+use Rattle.word_marks.specs.Marks.{byteFor, markFor}
+use Rattle.section_reader.specs.Reading.{byteRead, markRead, bytesRead, marksRead}
+use Rattle.channel_frame.specs.ChannelFrame.Standing.{byte-standing, mark-standing}
+use Rattle.section_frames.specs.Section.{wordAt}
 use Rattle.section_writer.specs.State.{right}
 use Rattle.section_writer.specs.WriteSay.{section, written, writeSay}
 use Rattle.merging.specs.Chosen.{SoFar}

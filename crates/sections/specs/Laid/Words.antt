@@ -9,7 +9,7 @@ use lib.Dec.{eqb}
 use lib.ListN.{getD}
 use Rattle.outcome.specs.Bytes.{Bytes}
 use Rattle.words.specs.Words.{wordOf, sync0, sync1}
-use Rattle.section_writer.specs.Section.{wordAt}
+use Rattle.section_frames.specs.Section.{wordAt}
 use Rattle.sections.specs.Laid.{atPlace}
 
 -- P says of a word what belongs to it: a to SYNC 0, b to SYNC 1, both only in a Control place, and g of a byte to its word

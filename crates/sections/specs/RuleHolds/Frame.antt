@@ -21,7 +21,7 @@ use Rattle.merging.specs.Rule.{header, allowed}
 use Rattle.merging.specs.Ready.Taken.{header-taken}
 use Rattle.merging.specs.Automaton.Speaks.{state-header}
 use Rattle.merging.specs.Automaton.Steps.{steps-append, live-first}
-use Rattle.section_writer.specs.Section.{wordAt, frameWords, withWords, withFrame, withFrames}
+use Rattle.section_frames.specs.Section.{wordAt, frameWords, withWords, withFrame, withFrames}
 use Rattle.merging.specs.Chosen.ThreeBits.{header-three, header-binary}
 use Rattle.sections.specs.RuleHolds.{Opening, Running, Ran}
 use Rattle.sections.specs.RuleHolds.Word.{run-word, word-takes, more-own, more-state, more-placed}

@@ -21,7 +21,7 @@ use Rattle.merging.specs.Places.Kept.{placed-more}
 use Rattle.merging.specs.Rule.{allowed}
 use Rattle.merging.specs.Ready.Taken.{word-taken, sync0-taken, sync1-taken}
 use Rattle.merging.specs.Automaton.Speaks.{state-more}
-use Rattle.section_writer.specs.Section.{wordAt}
+use Rattle.section_frames.specs.Section.{wordAt}
 use Rattle.sections.specs.Laid.Words.{at-word}
 use Rattle.merging.specs.Chosen.ThreeBits.{word-three, word-binary}
 use Rattle.sections.specs.RuleHolds.{Running, Ran}

@@ -10,7 +10,7 @@ use Rattle.merging.specs.Chosen.Behind.{Begun, behind, begun-header, begun-word
 use Rattle.merging.specs.Rule.{header}
 use Rattle.merging.specs.Automaton.{headed, StateOf}
 use Rattle.section_writer.specs.declared.SectionWriter.{SectionWriter}
-use Rattle.section_writer.specs.Section.{frameWords, withWords, withFrame, withFrames, sectionAfter}
+use Rattle.section_frames.specs.Section.{frameWords, withWords, withFrame, withFrames, sectionAfter}
 use Rattle.section_writer.specs.WriteSay.{section, afterSection}
 use Rattle.sections.specs.RuleHolds.{Opens}
 use Rattle.sections.specs.Stream.{Part, streamOf, atStart, sectionAmong, streamAmong}

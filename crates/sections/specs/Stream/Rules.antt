@@ -17,7 +17,7 @@ use Rattle.merging.specs.Places.Kept.{placed-first}
 use Rattle.merging.specs.Rule.{header, starts}
 use Rattle.merging.specs.Automaton.Speaks.{state-first}
 use Rattle.section_writer.specs.declared.SectionWriter.{SectionWriter}
-use Rattle.section_writer.specs.Section.{sectionAfter}
+use Rattle.section_frames.specs.Section.{sectionAfter}
 use Rattle.section_writer.specs.WriteSay.{section, afterSection}
 use Rattle.sections.specs.RuleHolds.{Opens}
 use Rattle.sections.specs.RuleHolds.Frame.{run-frames}

@@ -1,13 +1,13 @@
 -- The bytes of the sequence follow the rule of its bits: byte n + 15 is byte n plus byte n + 1.
 -- Assumes nothing.
 use mathlib.Core.Path.{_≡_, refl, sym, ap, ap₂, _∙_}
-use mathlib.Core.List.{List, [], _∷_}
+use mathlib.Core.List.{_∷_}
 use Prim.Native.Nat.{ℕ, zero, suc, _+_, _*_, _%_, _<_}
 use native.Mathlib.Nat.{suc-add}
 use native.Mathlib.Omega.{arith}
 use lib.Bits.{bitXor, xor-block}
 use Rattle.outcome.specs.Table.{tabulated}
-use Rattle.sequence.specs.Sequence.{Rule, bit, byteOf, byteAt}
+use Rattle.sequence.specs.Sequence.{bit, byteOf, byteAt}
 use Rattle.sequence.specs.Sequence.Follows.{bit-follows, bit-lt}
 
 -- ---- to add bits modulo 2 is to add the numbers that they make up

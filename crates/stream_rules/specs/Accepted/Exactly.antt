@@ -15,7 +15,8 @@ use Rattle.bits.specs.Bits.{unpack}
 use Rattle.bits.specs.Bits.Packed.{length-unpack}
 use Rattle.bits.specs.Binary.{Binary}
 use Rattle.merging.specs.Rule.{header, starts}
-use Rattle.section_reader.specs.Reading.{fieldAt, wordRead}
+use Rattle.fields.specs.Fields.{fieldAt}
+use Rattle.channel_frame.specs.ChannelFrame.{wordRead}
 use Rattle.stream_rules.specs.Offences.{headerOffends, rightWord, wordPlace, wordOffends}
 use Rattle.stream_rules.specs.Offences.RunRule.{runs-if-clean, clean-if-runs}
 use Rattle.stream_rules.specs.Offences.Stream.{binary-unpack}

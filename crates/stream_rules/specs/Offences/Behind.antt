@@ -14,7 +14,7 @@ use Rattle.outcome.specs.First.Found.{lt-or-le}
 use Rattle.outcome.specs.Table.Entries.{of-true}
 use Rattle.merging.specs.Rule.{header, starts}
 use Rattle.merging.specs.Rule.Headers.{starts-short}
-use Rattle.section_reader.specs.Reading.{fieldAt}
+use Rattle.fields.specs.Fields.{fieldAt}
 use Rattle.stream_rules.specs.Offences.{back, runOffends, headerOffends, rightWord, wordPlace, wordOffends}
 use Rattle.stream_rules.specs.Offences.Runs.{near, close, far, wrong, clear}
 use Rattle.stream_rules.specs.Offences.RunRule.{or-left, or-right, or-none, and-none-right, close-short, far-short, clear-header, clear-at}

@@ -15,7 +15,7 @@ use Rattle.bits.specs.Binary.{Binary}
 use Rattle.bits.specs.Binary.Parts.{binary-take, binary-drop, binary-bits}
 use Rattle.merging.specs.Rule.{header, starts}
 use Rattle.merging.specs.Rule.Headers.{eqb-plus}
-use Rattle.section_reader.specs.Reading.{fieldAt}
+use Rattle.fields.specs.Fields.{fieldAt}
 
 first-bit : (b : ℕ) (bs : List ℕ) → number 0 (b ∷ bs) ≡ b * 2 ^ length bs + number 0 bs
 first-bit b bs =

@@ -11,7 +11,7 @@ use lib.ListN.{length}
 use Rattle.outcome.specs.Table.Entries.{and-left, and-right, of-true, true-of}
 use Rattle.lists.specs.Each.Case.{case}
 use Rattle.bits.specs.Binary.{Binary}
-use Rattle.section_reader.specs.Reading.{fieldAt}
+use Rattle.fields.specs.Fields.{fieldAt}
 use Rattle.stream_rules.specs.Offences.{runOffends, headerOffends}
 use Rattle.stream_windows.specs.Window.{led, window, runIn, headIn}
 use Rattle.stream_windows.specs.Window.Lead.{binary-led, length-led}

@@ -10,8 +10,8 @@ use lib.ListN.{length, take}
 use Rattle.outcome.specs.First.Found.{lt-or-le}
 use Rattle.bits.specs.Bits.{number}
 use Rattle.bits.specs.Binary.{Binary}
-use Rattle.section_reader.specs.Reading.{fieldAt}
-use Rattle.section_reader.specs.Reading.Fields.{field-lt, field-split}
+use Rattle.fields.specs.Fields.{fieldAt}
+use Rattle.fields.specs.Fields.Parts.{field-lt, field-split}
 use Rattle.stream_rules.specs.Offences.{judged, runOffends, headerOffends}
 use Rattle.stream_rules.specs.Offences.Stream.{binary-judged, length-judged}
 use Rattle.stream_windows.specs.Window.{led}

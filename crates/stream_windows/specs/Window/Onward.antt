@@ -6,8 +6,8 @@ use Prim.Native.Nat.{ℕ, _+_, _*_, _%_, _≤_, _<_}
 use native.Mathlib.Omega.{arith}
 use lib.ListN.{length, getD}
 use Rattle.bits.specs.Binary.{Binary}
-use Rattle.section_reader.specs.Reading.{fieldAt}
-use Rattle.section_reader.specs.Reading.Fields.{field-one, field-lt, field-split}
+use Rattle.fields.specs.Fields.{fieldAt}
+use Rattle.fields.specs.Fields.Parts.{field-one, field-lt, field-split}
 use Rattle.stream_windows.specs.Window.{led, window}
 use Rattle.stream_windows.specs.Window.Lead.{binary-led, length-led}
 

@@ -12,8 +12,8 @@ use Rattle.bits.specs.Bits.{number}
 use Rattle.bits.specs.Binary.{Binary}
 use Rattle.bits.specs.Binary.Parts.{binary-bits, binary-drop}
 use Rattle.merging.specs.Rule.{header, starts}
-use Rattle.section_reader.specs.Reading.{fieldAt}
-use Rattle.section_reader.specs.Reading.Fields.{field-lt, field-split}
+use Rattle.fields.specs.Fields.{fieldAt}
+use Rattle.fields.specs.Fields.Parts.{field-lt, field-split}
 use Rattle.stream_rules.specs.Offences.{back, runOffends, headerOffends, rightWord, wordPlace, wordOffends}
 use Rattle.stream_rules.specs.Offences.Numbers.{starts-number, header-number}
 use Rattle.stream_rules.specs.Judging.{lowest, offence}

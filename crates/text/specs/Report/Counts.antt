@@ -5,10 +5,10 @@ use mathlib.Core.List.{List, [], _∷_, _++_}
 use Prim.Native.Nat.{ℕ, zero, suc, _+_}
 use native.Mathlib.Omega.{arith}
 use lib.ListN.{length}
-use Rattle.text.specs.declared.Fate.{Fate}
-use Rattle.text.specs.declared.Fate.the-variants.{Clean, Repaired, Refused}
+use Rattle.tally.specs.declared.Fate.{Fate}
+use Rattle.tally.specs.declared.Fate.the-variants.{Clean, Repaired, Refused}
 use Rattle.text.specs.Characters.{ascii}
-use Rattle.text.specs.Numerals.{decimal}
+use Rattle.numerals.specs.Numerals.{decimal}
 use Rattle.text.specs.Report.{tailLine, isClean, isRepaired, isRefused, howMany}
 
 pub tail-none : (left : ℕ) → left ≡ 0 → tailLine left ≡ []

@@ -2,9 +2,9 @@
 -- Assumes nothing.
 use mathlib.Core.Path.{_≡_, refl}
 use mathlib.Core.List.{[], _∷_}
-use Rattle.text.specs.declared.Fate.the-variants.{Clean, Repaired, Refused}
+use Rattle.tally.specs.declared.Fate.the-variants.{Clean, Repaired, Refused}
 use Rattle.text.specs.Characters.{ascii}
-use Rattle.text.specs.Numerals.{decimal, decimalWithin, hexDigit, hex}
+use Rattle.numerals.specs.Numerals.{decimal, decimalWithin, hexDigit, hex}
 use Rattle.text.specs.Report.{report}
 
 pub zeros-4709 : report (Refused 5 ∷ Refused 5 ∷ []) 5

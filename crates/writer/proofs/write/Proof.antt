@@ -1,9 +1,9 @@
--- `writer::write` meets its contract: each way out is a law of `Ways`.
+-- `writer::write` meets its contract: each way out is a law of `WaysOut`.
 -- Assumes nothing.
 use mathlib.Core.Path.{sym, _∙_}
 use borrow.Author.Needs.{needs}
 use borrow.Author.Tests.{not-false}
-use Rattle.writer.proofs.Ways.{ways, on-done}
+use Rattle.writer.proofs.WaysOut.{ways, on-done}
 use Rattle.writer.proofs.write.Statement.{statement}
 use Rattle.writer.proofs.write.Tie as tie
 

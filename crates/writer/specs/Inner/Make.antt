@@ -9,7 +9,8 @@ use Rattle.outcome.specs.Bytes.{Bytes}
 use Rattle.address.specs.Address.{inRange}
 use Rattle.address.specs.declared.HeaderTime.{HeaderTime}
 use Rattle.sector.specs.Layout.{userLength}
-use Rattle.writer.specs.Write.{Asked, isWritten}
+use Rattle.modes.specs.Modes.{isWritten}
+use Rattle.writer.specs.Write.{Asked}
 
 -- what no demand refuses
 pub record Askable (mode : ℕ) (time : HeaderTime) (user : List ℕ) : Type 0 where

@@ -10,8 +10,9 @@ use Rattle.address.specs.declared.HeaderTime.{HeaderTime}
 use Rattle.judge.specs.Judging.{passing, judging}
 use Rattle.judge.specs.Judging.Exact.{judge-complete}
 use Rattle.judge.specs.Judging.Told.{passing-one}
+use Rattle.modes.specs.Modes.Both.{one-or-two}
 use Rattle.writer.specs.Write.{Asked, says, Writes, writes}
-use Rattle.writer.specs.Write.Modes.{one-or-two, done-written}
+use Rattle.writer.specs.Write.Modes.{done-written}
 
 module _ {mode : ℕ} {time : HeaderTime} {user old : List ℕ} where
   -- where the writer is done, no demand refused, and what is in the buffer is what was asked for

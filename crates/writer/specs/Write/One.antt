@@ -22,8 +22,10 @@ use Rattle.sector.specs.Layout.{bytesFrom, timeOf, modeOf, userLength, userData
 use Rattle.sector.specs.Correct.{Head, Protected, CorrectMode01}
 use Rattle.sector.specs.Correct.Whole.{covered-one}
 use Rattle.address.specs.declared.HeaderTime.{HeaderTime}
-use Rattle.writer.specs.Write.{Asked, isWritten, Writes, refuses, writes}
-use Rattle.writer.specs.Write.Modes.{one-or-two, done-written}
+use Rattle.modes.specs.Modes.{isWritten}
+use Rattle.modes.specs.Modes.Both.{one-or-two}
+use Rattle.writer.specs.Write.{Asked, Writes, refuses, writes}
+use Rattle.writer.specs.Write.Modes.{done-written}
 
 module _ {mode : ℕ} {time : HeaderTime} {user s t : List ℕ} (a : Asked mode time user s) (b : Asked mode time user t) where
   same-mode : modeOf s ≡ modeOf t

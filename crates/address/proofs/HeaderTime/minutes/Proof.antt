@@ -1,12 +1,9 @@
 -- `address::HeaderTime::minutes` meets its contract: it goes by the same test as the definition.
 -- Assumes nothing.
-use mathlib.Core.Path.{_≡_, sym, _∙_}
-use mathlib.Core.Bool.{true}
-use Prim.Native.Nat.{_-_, _≤_}
+use mathlib.Core.Path.{sym, _∙_}
+use Prim.Native.Nat.{_-_}
 use native.Mathlib.Omega.{arith}
 use borrow.Author.Needs.{needs}
-use Rattle.digits.specs.Digits.{decimal}
-use Rattle.address.specs.Address.{inLeadIn}
 use Rattle.address.specs.Elapsed.{minutes}
 use Rattle.address.specs.Elapsed.One.{lead-in}
 use Rattle.address.proofs.HeaderTime.minutes.Statement.{statement}

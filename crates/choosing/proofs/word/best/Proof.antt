@@ -1,8 +1,8 @@
 -- `choosing::word::best` meets its contract: the better of two choices stands for the better of their Merging bits (`word-chosen`).
 -- Assumes nothing.
 use mathlib.Core.Path.{ap, _∙_}
-use Rattle.choosing.specs.declared.trace.Choice.{Choice}
-use Rattle.choosing.specs.Inner.Candidates.{betterOf}
+use Rattle.traces.specs.declared.Choice.{Choice}
+use Rattle.traces.specs.Better.{betterOf}
 use Rattle.choosing.proofs.WordCandidates.{word-chosen}
 use borrow.Author.Needs.{needs}
 use Rattle.choosing.proofs.word.best.Statement.{statement}

@@ -1,12 +1,11 @@
 -- `choosing::word::with_one` meets its contract: the numbers that it hands to `spend` are those of the Merging bits and the word (`one-stands`).
 -- Assumes nothing.
 use mathlib.Core.Path.{sym, ap, _∙_, subst}
-use Prim.Native.Nat.{ℕ, _+_, _-_, _*_}
+use Prim.Native.Nat.{ℕ, _+_, _*_}
 use Rattle.bits.specs.Bits.{bitsOf}
-use Rattle.choosing.specs.declared.trace.Trace.{Trace}
-use Rattle.choosing.specs.Inner.Candidates.{oneAfter, WordStands}
-use Rattle.choosing.specs.Inner.States.{afterWord}
-use Rattle.choosing.specs.Inner.Strokes.{spent}
+use Rattle.traces.specs.declared.Trace.{Trace}
+use Rattle.choosing.specs.Inner.{WordStands}
+use Rattle.states.specs.States.{afterWord, oneAfter}
 use Rattle.choosing.proofs.WordCandidates.{one-stands}
 use borrow.Author.Needs.{needs}
 use Rattle.choosing.proofs.word.with_one.Statement.{statement}
@@ -23,9 +22,6 @@ enter-requires c κs = search needs
 
 after-word-requires : tie.Need-after-word-requires
 after-word-requires c κs = search needs
-
-wide-requires : tie.Need-wide-requires
-wide-requires c κs = search needs
 
 sub-spend : tie.Need-sub-spend
 sub-spend c = search needs
@@ -53,13 +49,12 @@ add-t18 c = search needs
 
 returns : tie.Need-returns
 returns c =
-    let d = c .before .before .before .before .before .before .before in
+    let d = c .before .before .before .before .before .before in
     let start = d .before .before in
     let a = start .args in
     let p = a .p in
-    let run = c .before .before .before .before .before .before .after-word .ensures ∙ ap (λ (e : ℕ). afterWord e p) (d .enter .ensures) in
-    let tally = c .before .spend .ensures
-    ∙ ap (λ (n : ℕ). spent (a .t .tally) (n + (14 - p .ups)) ((3 - n) + p .ups) (1 - p .odd)) (c .before .before .before .before .before .wide .ensures .0) in
+    let run = c .before .before .before .before .before .after-word .ensures ∙ ap (λ (e : ℕ). afterWord e (p .lead) (p .plain) (p .ten)) (d .enter .ensures) in
+    let tally = c .before .spend .ensures in
     subst (λ (x : Trace). WordStands (a .t) (bitsOf 14 (p .word)) (record { bits = a .m * 16384 + p .word; after = x }) (oneAfter (a .before)))
     (sym (λ i. record { run = run i; tally = tally i }))
     (one-stands p (start .pre .1) (a .t) (start .pre .0) (a .before) (a .m) (start .pre .2) (start .pre .3) (start .pre .4))
@@ -72,7 +67,6 @@ with-one-spec =
     sub-enter-2
     enter-requires
     after-word-requires
-    wide-requires
     sub-spend
     add-spend
     sub-spend-2

@@ -4,9 +4,9 @@ use mathlib.Core.Path.{sym, ap, _∙_, subst}
 use Prim.Native.Nat.{ℕ}
 use Rattle.bits.specs.Bits.{bitsOf}
 use Rattle.merging.specs.Chosen.{m000}
-use Rattle.choosing.specs.declared.trace.Trace.{Trace}
-use Rattle.choosing.specs.Inner.Candidates.{WordStands}
-use Rattle.choosing.specs.Inner.States.{afterWord}
+use Rattle.traces.specs.declared.Trace.{Trace}
+use Rattle.choosing.specs.Inner.{WordStands}
+use Rattle.states.specs.States.{afterWord}
 use Rattle.choosing.proofs.WordCandidates.{zeros-stand}
 use borrow.Author.Needs.{needs}
 use Rattle.choosing.proofs.word.without_one.Statement.{statement}
@@ -33,7 +33,7 @@ returns c =
     let start = d .before .before in
     let a = start .args in
     let p = a .p in
-    let run = c .before .before .before .after-word .ensures ∙ ap (λ (e : ℕ). afterWord e p) (d .after-zeros .ensures) in
+    let run = c .before .before .before .after-word .ensures ∙ ap (λ (e : ℕ). afterWord e (p .lead) (p .plain) (p .ten)) (d .after-zeros .ensures) in
     subst (λ (x : Trace). WordStands (a .t) (bitsOf 14 (p .word)) (record { bits = p .word; after = x }) m000)
     (sym (λ i. record { run = run i; tally = c .spend .ensures i }))
     (zeros-stand p (start .pre .1) (a .t) (start .pre .0))

@@ -1,8 +1,7 @@
 -- `circ_codes::entry::enter` meets its contract: the frame with its parity turned back in front, the marks that are kept behind (`enters`).
 -- Assumes nothing.
-use mathlib.Core.Path.{_≡_, ap, _∙_}
-use mathlib.Core.List.{List, _++_}
-use Prim.Native.Nat.{ℕ}
+use mathlib.Core.Path.{ap}
+use mathlib.Core.List.{_++_}
 use native.Mathlib.Omega.{arith}
 use lib.ListN.{length, take, drop, replicate, length-append}
 use Rattle.outcome.specs.Buffer.Lengths.{same-lengths}

@@ -5,8 +5,9 @@ use mathlib.Core.Bool.{true, false}
 use borrow.Author.Tests.{ltb-true}
 use mir.Syntax.{w64}
 use mir.Val.{SFits}
+use Rattle.section_frames.specs.Frames.{due}
 use Rattle.section_writer.specs.State.{right}
-use Rattle.section_writer.proofs.WaysOut.{wrong-frames, wrong-control, wrong-out, wrong-state, full, all-written, by-refusal, right-is, begins-as, begins-within}
+use Rattle.section_writer.proofs.WaysOut.{wrong-frames, wrong-control, wrong-out, wrong-state, full, all-written, by-refusal, right-is, begins-as, begins-due}
 use borrow.Author.Needs.{needs}
 use Rattle.section_writer.proofs.SectionWriter.write.Statement.{statement}
 use Rattle.section_writer.proofs.SectionWriter.write.Tie as tie
@@ -57,18 +58,29 @@ begin-requires : tie.Need-begin-requires
 begin-requires c κs = search needs
 
 write-frames-requires : tie.Need-write-frames-requires
-write-frames-requires c κs =
-    let p = c .before .before .before .before in
+write-frames-requires c κs = search needs
+
+-- where the call began that has now written the frames
+abbrev start : tie.After-write-frames → tie.Start
+start w = w .before .before .before .before .before .before .before .before .before .before .before .before .before .before
+
+-- the frames are due
+frames-due : (w : tie.After-write-frames) → due (w .before .before .begin .result) (start w .args .frames .now) (start w .args .control .now) (start w .args .out .now) ≡ true
+frames-due w =
+    let n = w .before .before in
+    let p = n .before .before .before in
     let l = p .before .before .before in
-    let s = l .before .before .before .before .before .before .args .self in
+    let a = l .before .before .before .before .before .before .args in
     let g = p .before .before .struct-told .given in
-    let k : SFits w64 (s .dsv) = record { sfits = g .0 .1 } in
-    let f : SFits w64 (s .level) = record { sfits = g .1 .0 .1 } in
-    let r : right s ≡ true = right-is s k f _ true (p .is-possible .ensures) (c .before .before .before .if4 .taken) in
-    (l .if3 .left, l .before .before .if1 .left, l .before .if2 .left, begins-within s _ r (begins-as s k f _ (c .before .begin .ensures)))
+    let k : SFits w64 (a .self .dsv) = record { sfits = g .0 .1 } in
+    let f : SFits w64 (a .self .level) = record { sfits = g .1 .0 .1 } in
+    let r : right (a .self) ≡ true = right-is (a .self) k f _ true (p .is-possible .ensures) (n .before .before .if4 .taken) in
+    begins-due (a .self) _ (a .frames .now) (a .control .now) (a .out .now) (l .before .before .if1 .left) (l .before .if2 .left) (l .if3 .left) r (begins-as (a .self) k f _ (n .begin .ensures))
 
 advance-requires : tie.Need-advance-requires
-advance-requires c κs = (c .before .before .write-frames .ensures .within, ltb-true _ _ (c .before .before .before .before .before .if5 .taken))
+advance-requires c κs =
+    let w = c .before .before in
+    (w .write-frames .ensures .laid (frames-due w) .within, ltb-true _ _ (w .before .before .before .if5 .taken))
 
 same-length-3 : tie.Need-same-length-3
 same-length-3 c = search needs
@@ -84,8 +96,9 @@ returns-4 c =
     let k : SFits w64 (a .self .dsv) = record { sfits = g .0 .1 } in
     let f : SFits w64 (a .self .level) = record { sfits = g .1 .0 .1 } in
     let r : right (a .self) ≡ true = right-is (a .self) k f _ true (p .is-possible .ensures) (n .before .before .if4 .taken) in
+    let d = w .write-frames .ensures .laid (frames-due w) in
     all-written (a .self) (a .frames .now) (a .control .now) (a .out .now) (l .before .before .if1 .left) (l .before .if2 .left) (l .if3 .left) r (n .before .if5 .taken) (n .begin .result) (w .write-frames .result) (c .advance .result) _
-    (begins-as (a .self) k f _ (n .begin .ensures)) (w .write-frames .ensures) (c .advance .ensures) (λ i. c .before .slice-known4 .given i .fits) (w .write-frames .ensures .long)
+    (begins-as (a .self) k f _ (n .begin .ensures)) d (c .advance .ensures) (λ i. c .before .slice-known4 .given i .fits) (d .long)
 
 clear-requires : tie.Need-clear-requires
 clear-requires c κs = search needs

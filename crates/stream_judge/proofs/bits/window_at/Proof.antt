@@ -2,6 +2,7 @@
 -- Assumes nothing.
 use Prim.Native.Nat.{_-_}
 use native.Mathlib.Omega.{arith}
+use borrow.Author.Needs.{needs}
 use Rattle.stream_judge.proofs.Passes.{Growing, growing-start, growing-small, growing-more, growing-done}
 use Rattle.stream_judge.proofs.bits.window_at.Statement.{statement}
 use Rattle.stream_judge.proofs.bits.window_at.Tie as tie
@@ -22,7 +23,7 @@ add-bit-at-2 : tie.Need-add-bit-at-2 Inv-loop μ-loop
 add-bit-at-2 c = let a = c .before .before .before in omega (arith, a .pre .0, a .pre .1, c .loop-test .taken)
 
 bit-at-requires : tie.Need-bit-at-requires Inv-loop μ-loop
-bit-at-requires c κs = let a = c .before .before .before in (a .pre .0, omega (arith, a .pre .1, c .loop-test .taken))
+bit-at-requires c κs = search needs
 
 mul-v : tie.Need-mul-v Inv-loop μ-loop
 mul-v c = let a = c .before .before .before .before in

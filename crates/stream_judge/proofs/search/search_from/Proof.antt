@@ -44,9 +44,7 @@ add-bit-at c = let l = c .before .before .before .before .before in
     omega (arith, c .before .before .before .before .loop-test .taken, a .pre .0, a .pre .1)
 
 bit-at-requires : tie.Need-bit-at-requires Inv-loop μ-loop
-bit-at-requires c κs = let l = c .before .before .before .before .before in
-    let a = l .before .before .before .before .before in
-    (omega (arith, a .pre .0, a .pre .1), omega (arith, c .before .before .before .before .loop-test .taken, a .pre .0))
+bit-at-requires c κs = search needs
 
 mul-v : tie.Need-mul-v Inv-loop μ-loop
 mul-v c = let l = c .before .before .before .before .before .before in

@@ -3,7 +3,7 @@
 -- Assumes nothing.
 use Prim.Native.Nat.{ℕ, _<_}
 use native.Mathlib.Omega.{arith}
-use Rattle.text.specs.Numerals.Decimal.{length-one, length-more}
+use Rattle.numerals.specs.Numerals.Decimal.{length-one, length-more}
 use Rattle.text.proofs.Digits.{one-digit, more-digits}
 use borrow.Fn.Kinds.{In}
 use borrow.Fn.PlainCycle.{Measures, is, falls, and}

@@ -2,7 +2,7 @@
 -- Assumes nothing.
 use native.Mathlib.Omega.{arith}
 use borrow.Author.Needs.{needs}
-use Rattle.text.specs.Numerals.Decimal.{u64-short}
+use Rattle.numerals.specs.Numerals.Decimal.{u64-short}
 use Rattle.text.specs.Line.More.{and-then, from-empty}
 use Rattle.text.proofs.lines.fate_line.Statement.{statement}
 use Rattle.text.proofs.lines.fate_line.Tie as tie

@@ -3,7 +3,7 @@
 use mathlib.Core.Path.{sym, ap}
 use native.Mathlib.Omega.{arith}
 use borrow.Author.Needs.{needs}
-use Rattle.text.specs.Numerals.{hex}
+use Rattle.numerals.specs.Numerals.{hex}
 use Rattle.text.specs.Report.{fateText}
 use Rattle.text.specs.Line.More.{and-then, same-text}
 use Rattle.text.proofs.lines.put_fate.Statement.{statement}

@@ -2,7 +2,7 @@
 -- Assumes nothing.
 use native.Mathlib.Omega.{arith}
 use borrow.Author.Needs.{needs}
-use Rattle.text.specs.Numerals.Decimal.{u64-short}
+use Rattle.numerals.specs.Numerals.Decimal.{u64-short}
 use Rattle.text.specs.Line.More.{and-then}
 use Rattle.text.proofs.lines.put_labelled.Statement.{statement}
 use Rattle.text.proofs.lines.put_labelled.Tie as tie

@@ -2,7 +2,7 @@
 -- Assumes nothing.
 use borrow.Author.Needs.{needs}
 use native.Mathlib.Omega.{arith}
-use Rattle.text.specs.Numerals.{hex}
+use Rattle.numerals.specs.Numerals.{hex}
 use Rattle.text.specs.Line.More.{and-then}
 use Rattle.text.proofs.lines.put_time.Statement.{statement}
 use Rattle.text.proofs.lines.put_time.Tie as tie

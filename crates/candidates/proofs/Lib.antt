@@ -1,0 +1,2 @@
+-- the steps that make the candidate
+pub mod Steps

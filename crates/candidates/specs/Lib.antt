@@ -1,0 +1,2 @@
+-- document 01, "P and Q"
+pub mod Candidate

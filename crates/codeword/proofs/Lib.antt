@@ -1,4 +1,0 @@
-pub mod Listed
-pub mod Search
-pub mod Faults
-pub mod Solved

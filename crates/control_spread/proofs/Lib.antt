@@ -1,0 +1,2 @@
+-- bits beside the p bit
+pub mod QBits

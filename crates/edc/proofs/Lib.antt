@@ -1,4 +1,0 @@
-pub mod Spread
-pub mod Entries
-pub mod Passed
-pub mod Digits

@@ -1,0 +1,2 @@
+-- the ways out of `find`
+pub mod WaysOut

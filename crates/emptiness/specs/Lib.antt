@@ -1,0 +1,2 @@
+-- document 02, §13
+pub mod Listed

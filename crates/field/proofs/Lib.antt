@@ -1,2 +1,0 @@
-pub mod Bitwise
-pub mod Climb

@@ -1,0 +1,2 @@
+-- frames looked at one after the other
+pub mod Looking

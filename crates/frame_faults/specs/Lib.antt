@@ -1,0 +1,2 @@
+-- document 02, §14: the faults of frames in a row
+pub mod AllFaults

@@ -1,5 +1,0 @@
--- What the code goes by inside: contracts of private functions and what they need. No promise cites it.
--- Assumes nothing.
-
-pub mod Register
-pub mod Rows

@@ -1,2 +1,0 @@
--- the code's register and its tables
-pub mod Inner

@@ -1,0 +1,3 @@
+-- Annex C.7
+pub mod Register
+pub mod Rows

@@ -1,0 +1,2 @@
+-- what a copy hands out
+pub mod Copied

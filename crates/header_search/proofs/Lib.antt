@@ -1,0 +1,2 @@
+-- the edges at which no Sync Header begins
+pub mod Searching

@@ -1,0 +1,2 @@
+-- the edge at which the first Sync Header begins
+pub mod HeaderEdge

@@ -1,0 +1,2 @@
+-- the stream in bytes
+pub mod Bytes

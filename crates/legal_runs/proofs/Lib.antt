@@ -1,0 +1,2 @@
+-- the bits of an edge, and the runs that are not legal
+pub mod Legality

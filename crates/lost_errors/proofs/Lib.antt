@@ -1,0 +1,2 @@
+mod Sweep
+mod Adding

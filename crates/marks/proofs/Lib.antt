@@ -1,0 +1,2 @@
+mod Look
+mod Counting

@@ -1,0 +1,2 @@
+-- the ways out
+pub mod Rules

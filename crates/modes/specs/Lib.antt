@@ -1,0 +1,2 @@
+-- clause 14
+pub mod Modes

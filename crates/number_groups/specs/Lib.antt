@@ -1,0 +1,2 @@
+-- document 02, §5
+pub mod Put

@@ -1,0 +1,2 @@
+-- the number at a place
+pub mod Standing

@@ -1,0 +1,2 @@
+-- tests of a word of which is known whether it is listed
+pub mod Known

@@ -1,0 +1,2 @@
+-- what the choice needs to know of a word
+pub mod Profiles

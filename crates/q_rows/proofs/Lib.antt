@@ -1,0 +1,2 @@
+-- the parity behind the gathered rows
+pub mod Behind

@@ -1,0 +1,2 @@
+-- Annex A
+pub mod Laid

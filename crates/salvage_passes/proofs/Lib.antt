@@ -1,0 +1,2 @@
+-- trials and passes
+pub mod Trials

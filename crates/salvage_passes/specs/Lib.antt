@@ -1,0 +1,3 @@
+-- document 02, §10
+pub mod Passes
+pub mod Tries

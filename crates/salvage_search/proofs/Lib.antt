@@ -1,0 +1,2 @@
+-- the search over the passes
+pub mod Searching

@@ -1,0 +1,2 @@
+-- document 02, §10
+pub mod Search

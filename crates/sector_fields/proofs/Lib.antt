@@ -1,0 +1,3 @@
+-- a Sector protected, and the steps that do it
+pub mod Protects
+pub mod Protecting

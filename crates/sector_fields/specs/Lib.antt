@@ -1,0 +1,3 @@
+-- clause 14
+pub mod Front
+pub mod Protect

@@ -1,0 +1,2 @@
+-- the automaton's state after bits that are written at once
+pub mod States

@@ -1,0 +1,2 @@
+-- twelve bytes compared
+pub mod Twelve

@@ -1,0 +1,2 @@
+-- where Sync stands
+pub mod SyncAt

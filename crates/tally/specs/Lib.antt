@@ -1,0 +1,2 @@
+-- document 01, "The report"
+pub mod Counting

@@ -1,0 +1,2 @@
+-- the byte and the mark of a word
+pub mod Marks

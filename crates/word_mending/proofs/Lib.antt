@@ -1,0 +1,2 @@
+-- what is done with a fault
+pub mod Faults
