@@ -13,6 +13,7 @@ use Rattle.captures.specs.Number.{shortest}
 pub mod Back
 pub mod One
 pub mod Filled
+pub mod Lengths
 
 -- the numbers that are kept of counts: the first count's own value, and then the distances
 unfoldable pub kept : List ℕ → List ℕ

@@ -1,4 +1,1 @@
-mod Mending
-mod Treating
 mod Passing
-mod Keeping

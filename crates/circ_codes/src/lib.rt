@@ -1,13 +1,8 @@
-// The words of the CIRC reader (Annex C.7; document 02, §7): what comes in, and what C1 and C2 hand on. A word has its marks behind it.
+// The words of the CIRC reader (Annex C.7; document 02, §7): what C1 and C2 hand on. A word has its marks behind it.
 ghost use mathlib.Core.Path.{_≡_};
 ghost use lib.ListN.{length, take};
 ghost use Rattle.circ.specs.Marked.{passC1, passC2};
-
-mod entry;
-mod words;
-
-pub use entry::enter;
-use words::treat;
+use circ_words::treat;
 
 // One or two marked bytes of a C1 word are filled.
 const MOST_C1: usize = 2;

@@ -1,3 +1,2 @@
 mod Marks
-mod Shared
-mod Turning
+mod Decoded

@@ -7,22 +7,15 @@ ghost use lib.ListN.{length};
 ghost use Rattle.outcome.specs.Say.{done, cleared};
 ghost use Rattle.lines.specs.Delay.{zeros};
 ghost use Rattle.circ.specs.Rows.{collected, doubt};
-ghost use Rattle.circ.specs.Marked.{entering, freshReader};
+ghost use Rattle.circ.specs.Marked.{freshReader};
 ghost use Rattle.circ.specs.Rings.{readerRings, readsInPlace};
 ghost use Rattle.circ_reader.specs.Answers.{sayOf};
 ghost use Rattle.calls.specs.Step.{step};
 ghost use Rattle.circ_reader.specs.Inner.Reading.{ReaderAsks, ReaderGone};
 
 mod ring_lengths;
-mod waits;
 
-use circ_codes::enter;
-use circ_codes::pass_c1;
-use circ_codes::pass_c2;
 use ring_lengths::RING_LENGTHS;
-use waits::AFTER_C2;
-use waits::BEFORE_C1;
-use waits::BETWEEN;
 
 // 16 bytes in as many rows wait before C1 and 1,512 in 27 between C1 and C2, each with its mark, and 24 bytes and two doubts in 13 after C2. Any mark but 0 marks.
 pub struct CircReader {
@@ -91,18 +84,6 @@ fn answer_by(rows: &[u8]) -> ReaderAnswer
     ReaderAnswer::Sure
 }
 
-// The word that goes into C1's delays: a frame, and behind it its marks.
-fn take_in(frame: &[u8], marks: &[u8]) -> [u8; 64]
-    requires { ⌜ (length (now frame) ≡ 32) × (length (now marks) ≡ 32) ⌝ }
-    ensures { λ r. ⌜ r ≡ entering (now (frame .entry) ++ now (marks .entry)) ⌝ }
-{
-    let mut f2 = [0u8; 32];
-    outcome::copy(frame, &mut f2);
-    let mut lost = [0u8; 32];
-    outcome::copy(marks, &mut lost);
-    enter(f2, lost)
-}
-
 // The F1-frame in the rows goes out, and is sure or in doubt.
 fn hand_out(rows: &[u8], out: &mut [u8]) -> ReaderAnswer
     requires { ⌜ (30 ≤ length (now rows)) × (length (now out) ≡ 24) ⌝ }
@@ -124,13 +105,12 @@ fn go(
     requires { ⌜ ReaderAsks (now places) (now frame) (now marks) (now out) ⌝ }
     ensures { λ r. ⌜ ReaderGone (now (places .entry)) (now (store .entry)) (now (frame .entry) ++ now (marks .entry)) (now (places .exit)) (now (store .exit)) (sayOf r) (now (out .exit)) ⌝ }
 {
-    let mut c1 = take_in(frame, marks);
-    rings::turn_with_marks(&BEFORE_C1, places, 0, store, 0, 16, &mut c1);
-    let mut c2 = pass_c1(c1);
-    rings::turn_with_marks(&BETWEEN, places, 16, store, 32, 1544, &mut c2);
-    let mut rows = pass_c2(c2);
-    rings::turn(&AFTER_C2, places, 43, store, 3056, &mut rows);
-    rings::onward(&RING_LENGTHS, places);
+    let mut f2 = [0u8; 32];
+    outcome::copy(frame, &mut f2);
+    let mut lost = [0u8; 32];
+    outcome::copy(marks, &mut lost);
+    let rows = circ_decoding::decode(store, places, f2, lost);
+    ring_places::onward(&RING_LENGTHS, places);
     hand_out(&rows, out)
 }
 
@@ -162,7 +142,7 @@ pub fn read_in_place(
     if out.len() != 24 {
         return ReaderAnswer::WrongOutgoing;
     }
-    if !rings::below(&RING_LENGTHS, places) {
+    if !ring_places::below(&RING_LENGTHS, places) {
         return refuse(ReaderAnswer::WrongPlace, out);
     }
     go(store, places, frame, marks, out)

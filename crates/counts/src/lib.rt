@@ -3,6 +3,20 @@ ghost use mathlib.Core.Path.{_≡_};
 ghost use Prim.Native.Nat.{_+_, _*_};
 ghost use lib.ListN.{getD};
 ghost use Rattle.captures.specs.Counts.{countsOf, distance};
+ghost use Rattle.captures.specs.Kept.{rightCapture};
+
+// Whether so many bytes can be a capture: an even number of them, 64 KiB at most.
+pub fn is_capture(capture: &[u8]) -> bool
+    ensures { λ r. ⌜ r ≡ rightCapture (now (capture .entry)) ⌝ }
+{
+    if capture.len() % 2 != 0 {
+        return false;
+    }
+    if capture.len() > 65536 {
+        return false;
+    }
+    true
+}
 
 // A count of two bytes.
 fn joined(high: u8, low: u8) -> u16

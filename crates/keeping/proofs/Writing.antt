@@ -1,11 +1,12 @@
 -- The invariant of the loop over all counts, and the ways out of keeping a capture.
 -- Assumes nothing.
 use mathlib.Core.Path.{_≡_, refl, sym, ap, ap₂, _∙_}
+use mathlib.Core.Bool.{true, false}
 use mathlib.Core.List.{List, [], _∷_, _++_, append-assoc, append-nil}
-use Prim.Native.Nat.{ℕ, _+_, _*_, _/_, _%_, _<_, _≤_}
+use Prim.Native.Nat.{ℕ, _+_, _*_, _/_, _<_, _≤_}
 use native.Mathlib.Numerals.{add-one}
 use native.Mathlib.Omega.{arith}
-use borrow.Author.Tests.{eq-eqb, ne-eqb, le-leb, lt-leb}
+use borrow.Author.Tests.{eq-eqb, ne-eqb}
 use lib.ListN.{length, getD, take, drop, length-append, drop-of-length-le}
 use lib.Seq.{drop-cons}
 use Rattle.outcome.specs.Bytes.{Bytes}
@@ -13,7 +14,8 @@ use Rattle.outcome.specs.Say.{done, refused, outcome, cleared}
 use Rattle.captures.specs.Counts.{countsOf, distance, distances}
 use Rattle.captures.specs.Counts.Bytes.{counts-small, length-counts}
 use Rattle.captures.specs.Number.{shortest}
-use Rattle.captures.specs.Kept.{written, runList, filled, keeping}
+use Rattle.captures.specs.Kept.{written, runList, filled, rightCapture, keeping}
+use Rattle.captures.specs.Kept.Lengths.{right-short}
 use Rattle.captures.specs.Kept.One.{some-bytes}
 use Rattle.captures.specs.Kept.Filled.{length-filled, wiped-length, filled-more, kept-from-0}
 use Rattle.number_groups.specs.Put.{Puts}
@@ -82,26 +84,19 @@ module _ (capture old list : List ℕ) (wiped : list ≡ cleared 98304 old) wher
   same : length list ≡ length old
   same = ap length wiped ∙ wiped-length 98304 old
 
-  pub on-odd : (length capture % 2 ≡ 0 → ⊥) → outcome (refused 1 []) list ≡ keeping capture old
+  pub on-incoming : rightCapture capture ≡ false → outcome (refused 1 []) list ≡ keeping capture old
   unfolding keeping
-  on-odd n = ap (outcome (refused 1 [])) wiped ∙ simp (ne-eqb (length capture % 2) 0 n)
+  on-incoming w = ap (outcome (refused 1 [])) wiped ∙ simp w
 
-  pub on-long : length capture % 2 ≡ 0 → 65536 < length capture → outcome (refused 1 []) list ≡ keeping capture old
+  pub on-room : rightCapture capture ≡ true → (length list ≡ 98304 → ⊥) → outcome (refused 2 []) list ≡ keeping capture old
   unfolding keeping
-  on-long e h = ap (outcome (refused 1 [])) wiped ∙ simp (eq-eqb (length capture % 2) 0 e, lt-leb (length capture) 65536 h)
+  on-room r n = ap (outcome (refused 2 [])) wiped ∙ simp (r, ne-eqb (length old) 98304 (λ l. n (same ∙ l)))
 
-  pub on-room : length capture % 2 ≡ 0 → length capture ≤ 65536 → (length list ≡ 98304 → ⊥) → outcome (refused 2 []) list ≡ keeping capture old
-  unfolding keeping
-  on-room e h n =
-      ap (outcome (refused 2 [])) wiped
-      ∙ simp (eq-eqb (length capture % 2) 0 e, le-leb (length capture) 65536 h, ne-eqb (length old) 98304 (λ l. n (same ∙ l)))
+  pub is-ready : rightCapture capture ≡ true → length list ≡ 98304 → Ready capture list
+  is-ready r n = record { short = right-short capture r; zeros = wiped ∙ simp (eq-eqb (length old) 98304 (sym same ∙ n)) }
 
-  pub is-ready : length capture % 2 ≡ 0 → length capture ≤ 65536 → length list ≡ 98304 → Ready capture list
-  is-ready e h n = record { even = e; short = h; zeros = wiped ∙ simp (eq-eqb (length old) 98304 (sym same ∙ n)) }
-
-  pub on-done : length capture % 2 ≡ 0 → length capture ≤ 65536 → length list ≡ 98304 → (used : ℕ) (new : List ℕ) → Wrote capture used new
+  pub on-done : rightCapture capture ≡ true → length list ≡ 98304 → (used : ℕ) (new : List ℕ) → Wrote capture used new
       → outcome (done (used ∷ [])) new ≡ keeping capture old
   unfolding keeping
-  on-done e h n used new w =
-      ap₂ (λ (k : ℕ) (l : List ℕ). outcome (done (k ∷ [])) l) (w .used) (w .is)
-      ∙ simp (eq-eqb (length capture % 2) 0 e, le-leb (length capture) 65536 h, eq-eqb (length old) 98304 (sym same ∙ n))
+  on-done r n used new w =
+      ap₂ (λ (k : ℕ) (l : List ℕ). outcome (done (k ∷ [])) l) (w .used) (w .is) ∙ simp (r, eq-eqb (length old) 98304 (sym same ∙ n))

@@ -36,10 +36,7 @@ pub fn runs_of(capture: &[u8], list: &mut [u8]) -> Listed
     ensures { λ r. ⌜ outcome (sayOf r) (now (list .exit)) ≡ keeping (now (capture .entry)) (now (list .entry)) ⌝ }
 {
     outcome::wipe(list, 98304);
-    if capture.len() % 2 != 0 {
-        return Listed::WrongIncoming;
-    }
-    if capture.len() > 65536 {
+    if !counts::is_capture(capture) {
         return Listed::WrongIncoming;
     }
     if list.len() != 98304 {

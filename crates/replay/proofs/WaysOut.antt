@@ -1,10 +1,11 @@
 -- The ways out of replaying a capture: the buffer is wiped first, and its length stays.
 -- Assumes nothing.
 use mathlib.Core.Path.{_≡_, refl, sym, ap, ap₂, _∙_}
+use mathlib.Core.Bool.{true, false}
 use mathlib.Core.List.{List, [], _∷_, _++_}
-use Prim.Native.Nat.{ℕ, _+_, _-_, _*_, _/_, _%_, _<_, _≤_}
+use Prim.Native.Nat.{ℕ, _+_, _-_, _*_, _/_, _<_, _≤_}
 use native.Mathlib.Omega.{arith}
-use borrow.Author.Tests.{eq-eqb, ne-eqb, le-leb, lt-leb, lt-ltb, le-ltb}
+use borrow.Author.Tests.{eq-eqb, ne-eqb, lt-ltb, le-ltb}
 use lib.ListN.{length, take, drop, replicate, length-drop}
 use Rattle.outcome.specs.Bytes.{Bytes}
 use Rattle.outcome.specs.First.{firstBelow, firstFrom}
@@ -12,7 +13,8 @@ use Rattle.outcome.specs.Say.{Say, done, refused, outcome, answered, cleared}
 use Rattle.outcome.specs.Say.Refusals.{cleared-right}
 use Rattle.bits.specs.Bits.{pack}
 use Rattle.captures.specs.Counts.{countsOf, runsOf}
-use Rattle.captures.specs.Kept.{filled}
+use Rattle.captures.specs.Kept.{rightCapture, filled}
+use Rattle.captures.specs.Kept.Lengths.{right-short}
 use Rattle.captures.specs.Kept.Filled.{wiped-length}
 use Rattle.replaying.specs.Replay.{channel, channelOf, firstHeader, framesFrom, bytesFor, packed, firstIllegal, framesOf, headerSay, runsSay, replaySay, replaying}
 use Rattle.replaying.specs.Replay.Sizes.{Legal, bitsOfRuns, length-channel, bits-at-most}
@@ -42,8 +44,7 @@ some-bits (c ∷ cs) h = refl
 -- the buffer is wiped, and all lengths are right
 pub record Right (capture old frames : List ℕ) : Type 0 where
   pub wiped : frames ≡ cleared 65536 old
-  pub even : length capture % 2 ≡ 0
-  pub short : length capture ≤ 65536
+  pub captured : rightCapture capture ≡ true
   pub long : length frames ≡ 65536
 
 -- all runs are legal
@@ -88,18 +89,13 @@ module _ (capture old frames : List ℕ) (wiped : frames ≡ cleared 65536 old) 
   refuses : (n : ℕ) (vs : List ℕ) → replaySay capture old ≡ refused n vs → outcome (refused n vs) frames ≡ replaying capture old
   refuses n vs e = ap (outcome (refused n vs)) wiped ∙ sym (left (refused n vs) e)
 
-  pub on-odd : (length capture % 2 ≡ 0 → ⊥) → outcome (refused 1 []) frames ≡ replaying capture old
+  pub on-incoming : rightCapture capture ≡ false → outcome (refused 1 []) frames ≡ replaying capture old
   unfolding replaySay
-  on-odd n = refuses 1 [] (simp (ne-eqb (length capture % 2) 0 n))
+  on-incoming w = refuses 1 [] (simp w)
 
-  pub on-long : length capture % 2 ≡ 0 → 65536 < length capture → outcome (refused 1 []) frames ≡ replaying capture old
+  pub on-room : rightCapture capture ≡ true → (length frames ≡ 65536 → ⊥) → outcome (refused 2 []) frames ≡ replaying capture old
   unfolding replaySay
-  on-long e h = refuses 1 [] (simp (eq-eqb (length capture % 2) 0 e, lt-leb (length capture) 65536 h))
-
-  pub on-room : length capture % 2 ≡ 0 → length capture ≤ 65536 → (length frames ≡ 65536 → ⊥) → outcome (refused 2 []) frames ≡ replaying capture old
-  unfolding replaySay
-  on-room e h n =
-      refuses 2 [] (simp (eq-eqb (length capture % 2) 0 e, le-leb (length capture) 65536 h, ne-eqb (length old) 65536 (λ l. n (same ∙ l))))
+  on-room r n = refuses 2 [] (simp (r, ne-eqb (length old) 65536 (λ l. n (same ∙ l))))
 
 module _ {capture old frames : List ℕ} (r : Right capture old frames) where
   bits : List ℕ
@@ -111,7 +107,7 @@ module _ {capture old frames : List ℕ} (r : Right capture old frames) where
   -- the lengths are right: the runs decide
   runs-decide : replaySay capture old ≡ runsSay (runs capture) (firstIllegal (runs capture)) (headerSay bits (firstHeader bits))
   unfolding replaySay bits
-  runs-decide = simp (eq-eqb (length capture % 2) 0 (r .even), le-leb (length capture) 65536 (r .short), eq-eqb (length old) 65536 old-long)
+  runs-decide = simp (r .captured, eq-eqb (length old) 65536 old-long)
 
   pub on-illegal : (i : ℕ) → i ≡ firstIllegal (runs capture) → i + 1 < length capture / 2 → outcome (refused 20 (i ∷ [])) frames ≡ replaying capture old
   on-illegal i first k =
@@ -146,8 +142,11 @@ module _ {capture old frames : List ℕ} {k : ℕ} (b : Begun capture old frames
   legal : Legal (runs capture)
   legal = b .clear .legal
 
+  short : length capture ≤ 65536
+  short = right-short capture (b .clear .right .captured)
+
   pub edge-there : EdgeThere capture k
-  edge-there = record { short = b .clear .right .short; legal = legal; within = omega (arith, b .within) }
+  edge-there = record { short = short; legal = legal; within = omega (arith, b .within) }
 
   abbrev from : List ℕ
   from = channel (drop k (runs capture))
@@ -170,7 +169,7 @@ module _ {capture old frames : List ℕ} {k : ℕ} (b : Begun capture old frames
         bits-at-most (drop k (runs capture)) (legal-drop k (runs capture) legal),
         length-drop k (runs capture),
         runs-long capture,
-        b .clear .right .short,
+        short,
       )
 
   inside : firstHeader all < length all

@@ -61,10 +61,7 @@ pub fn replay(capture: &[u8], frames: &mut [u8]) -> Replayed
     ensures { λ r. ⌜ outcome (sayOf r) (now (frames .exit)) ≡ replaying (now (capture .entry)) (now (frames .entry)) ⌝ }
 {
     outcome::wipe(frames, 65536);
-    if capture.len() % 2 != 0 {
-        return Replayed::WrongIncoming;
-    }
-    if capture.len() > 65536 {
+    if !counts::is_capture(capture) {
         return Replayed::WrongIncoming;
     }
     if frames.len() != 65536 {

@@ -1,6 +1,6 @@
 -- The first and the last steps of a report.
 -- Assumes nothing.
-use mathlib.Core.Path.{_≡_, refl, sym, subst}
+use mathlib.Core.Path.{_≡_, refl, subst}
 use mathlib.Core.List.{List, [], _∷_}
 use Prim.Native.Nat.{ℕ}
 use types.Run.{OneOf, miss}
@@ -10,7 +10,7 @@ use Rattle.tally.specs.Counting.{largest, noneCounted}
 use Rattle.standing.specs.declared.Progress.{Progress}
 use Rattle.standing.specs.declared.Stand.{Stand}
 use Rattle.standing.specs.declared.Stand.the-variants.{Opening, Going, AtEnd, Closing, Done, ReadFailed, WriteFailed}
-use Rattle.reporting.specs.Run.{Step, opens, counts-left, closes, unwritten, Goes, Run, begins, Reached, Counted, Turning, Final, Reported}
+use Rattle.report_run.specs.Run.{Step, opens, counts-left, closes, unwritten, Goes, begins, Reached, Counted, Turning, Final, Reported}
 use Rattle.standing.proofs.Stand as stand
 use Rattle.reporting.proofs.Steps.{reach}
 
@@ -19,12 +19,8 @@ first-turn opens = refl
 first-turn (unwritten n step) = tt
 
 -- after the first line no Sector is counted
-pub opened : (c : Counts) (p : Progress) → c ≡ noneCounted → Goes Opening c (p .stand) (p .counts) → Turning 0 p
-opened c p e g =
-    record {
-      reached = reach (record { text = []; run = subst (λ (x : Counts). Run [] Opening x) (sym e) begins }) g;
-      counted = first-turn (g .step);
-    }
+pub opened : (p : Progress) → Goes Opening noneCounted (p .stand) (p .counts) → Turning 0 p
+opened p g = record { reached = reach (record { text = []; run = begins }) g; counted = first-turn (g .step) }
 
 -- any stand but at the end
 abbrev notAtEnd : List ℕ
@@ -62,7 +58,5 @@ after-last closes = tt
 after-last (unwritten n step) = tt
 
 -- and so does the last line, written or not
-pub ended-well : {s : Stand} {c : Counts} (p : Progress) → s ≡ Closing → Reached s c → Goes s c (p .stand) (p .counts) → Reported p
-ended-well {s} {c} p e a g =
-    let h = subst (λ (x : Stand). Goes x c (p .stand) (p .counts)) e g in
-    record { reached = reach a g; final = after-last (h .step) }
+pub ended-well : {s : Stand} {c : Counts} (p : Progress) → s ≡ Closing → Reached s c → Goes Closing c (p .stand) (p .counts) → Reported p
+ended-well {s} {c} p e a g = record { reached = reach (subst (λ (x : Stand). Reached x c) e a) g; final = after-last (g .step) }

@@ -1,4 +1,4 @@
+-- from step to step, from turn to turn, and the ends
 pub mod Steps
-pub mod Telling
 pub mod Reaching
 pub mod Ends

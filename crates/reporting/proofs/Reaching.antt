@@ -18,11 +18,12 @@ use Rattle.standing.specs.declared.Progress.{Progress}
 use Rattle.standing.specs.declared.Stand.{Stand}
 use Rattle.standing.specs.declared.Stand.the-variants.{Going}
 use Rattle.standing.specs.Standing.{isOver, ahead, standOf, standAfter}
-use Rattle.reporting.specs.Run.{tells, ends, unread, goes, Reached, Counted, Turning}
-use Rattle.reporting.specs.Run as run
-use Rattle.reporting.specs.Inner.Turn.{Lines, none, next, Told, all-told, unwritten, sectorsIn, Some, Turn}
+use Rattle.report_run.specs.Run.{tells, ends, unread, goes, Reached, Counted, Turning}
+use Rattle.report_run.specs.Run as run
+use Rattle.saying.specs.Told.{Lines, none, next, Told, all-told, unwritten, sectorsIn, Some}
+use Rattle.saying.specs.Told.Counted.{lines-counted}
+use Rattle.reporting.specs.Inner.Turn.{Turn}
 use Rattle.reporting.proofs.Steps.{going, turned-over}
-use Rattle.reporting.proofs.Telling.{lines-counted}
 
 -- no more is read than there is room for
 pub within : (room have : ℕ) (last : Read) → StoppedAt room have last → have ≤ room

@@ -1,54 +1,18 @@
--- From one step of a report to the next: what its functions ask of a line, and what they know after it.
+-- From one step of a report to the next, where it goes on and where it does not.
 -- Assumes nothing.
-use mathlib.Core.Path.{_≡_, refl, sym, subst}
-use mathlib.Core.Bool.{Bool, true, false}
-use mathlib.Core.List.{List}
-use Prim.Native.Nat.{ℕ, _≤_}
+use mathlib.Core.Path.{_≡_, refl}
+use mathlib.Core.Bool.{true, false}
+use Prim.Native.Nat.{ℕ}
 use native.Mathlib.Omega.{arith}
 use Rattle.tally.specs.declared.Counts.{Counts}
-use Rattle.tally.specs.declared.Fate.{Fate}
-use Rattle.text.specs.declared.Text.{Text}
-use Rattle.tally.specs.Counting.{noneCounted, countedWith}
-use Rattle.text.specs.Line.{Holds, written}
-use Rattle.text.specs.Line.More.{holds-written}
-use Rattle.text.specs.Report.{firstLine, fateLine, lastLine}
 use Rattle.standing.specs.declared.Progress.{Progress}
 use Rattle.standing.specs.declared.Stand.{Stand}
 use Rattle.standing.specs.declared.Stand.the-variants.{Opening, Going, AtEnd, Closing, Done, ReadFailed, WriteFailed}
-use Rattle.standing.specs.Standing.{isOver, afterLine}
-use Rattle.reporting.specs.Run.{Step, opens, tells, closes, unwritten, Goes, goes, Reached, Counted, Turning}
-use Rattle.reporting.specs.Inner.Turn.{Says, counted, Due}
-
--- a line that the report has here may be said
-pub sayable : {s t : Stand} {c d : Counts} (line : List ℕ) (text : Text) → Holds line text → Step s c line t d
-    → (text .len ≤ 96) × Step s c (written text) t d
-sayable {s} {t} {c} {d} line text h step =
-    (omega (arith, h .fits, h .len), subst (λ (l : List ℕ). Step s c l t d) (sym (holds-written line text h)) step)
-
--- a line goes out or ends the report
-pub said : {s : Stand} {c : Counts} (line : List ℕ) (next r : Progress) (went : Bool) → Step s c line (next .stand) (next .counts)
-    → r ≡ afterLine went c next → Says s c next r
-said {s} {c} line next r went step e = record { goes = by went e; went = went; is = e }
-  where
-    by : (w : Bool) → r ≡ afterLine w c next → Goes s c (r .stand) (r .counts)
-    by true q = subst (λ (x : Progress). Goes s c (x .stand) (x .counts)) (sym q) (record { text = line; step = step })
-    by false q = subst (λ (x : Progress). Goes s c (x .stand) (x .counts)) (sym q) (record { text = _; step = unwritten 0 step })
+use Rattle.standing.specs.Standing.{isOver}
+use Rattle.report_run.specs.Run.{Goes, goes, Reached, Counted, Turning}
 
 pub reach : {s t : Stand} {c d : Counts} → Reached s c → Goes s c t d → Reached t d
 reach a g = record { text = _; run = goes (a .run) (g .step) }
-
--- ---- a Sector's line
-
-tells-due : {c : Counts} {fate : Fate} → Due c fate → Step Going c (fateLine (c .sectors) fate) Going (countedWith c fate)
-tells-due u = tells (u .sector) (u .long) (u .fated) (u .room)
-
-module _ (c d : Counts) (fate : Fate) (e : d ≡ countedWith c fate) where
-  pub tellable : (text : Text) → Due c fate → Holds (fateLine (c .sectors) fate) text → (text .len ≤ 96) × Step Going c (written text) Going d
-  tellable text u h =
-      sayable (fateLine (c .sectors) fate) text h (subst (λ (x : Counts). Step Going c (fateLine (c .sectors) fate) Going x) (sym e) (tells-due u))
-
-  pub told-one : (r : Progress) → Says Going c (record { counts = d; stand = Going }) r → Says Going c (counted c fate) r
-  told-one r s = subst (λ (x : Counts). Says Going c (record { counts = x; stand = Going }) r) e s
 
 -- ---- where the report goes on, and where it does not
 
@@ -73,11 +37,3 @@ over-any m n WriteFailed c e h = h
 -- where it does not go on, the number of Sectors does not matter
 pub turned-over : (m n : ℕ) (p : Progress) → isOver (p .stand) ≡ true → Turning m p → Turning n p
 turned-over m n p e t = record { reached = t .reached; counted = over-any m n (p .stand) (p .counts) e (t .counted) }
-
--- ---- the first line and the last
-
-pub openable : (c : Counts) → c ≡ noneCounted → Step Opening c firstLine Going c
-openable c e = subst (λ (x : Counts). Step Opening x firstLine Going x) (sym e) opens
-
-pub closable : (s : Stand) (c : Counts) → s ≡ Closing → Step s c (lastLine (c .clean) (c .repaired) (c .refused)) Done c
-closable s c e = subst (λ (x : Stand). Step x c (lastLine (c .clean) (c .repaired) (c .refused)) Done c) (sym e) closes

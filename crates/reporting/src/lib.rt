@@ -1,14 +1,12 @@
 // The report (document 01) from standard input to standard output. What one read means stands in `reading`, what follows from it in
-// `standing`, what is printed in `saying`; the fate of a Sector is decided in `batch` and `fate`, every character of a line in `text`.
-mod saying;
-
+// `standing`, its steps in `report_run`, what is printed in `saying`; the fate of a Sector is decided in `batch` and `fate`, every character of a line in `text`.
 ghost use mathlib.Core.Path.{_≡_};
 ghost use Prim.Native.Nat.{_*_};
 ghost use lib.ListN.{length};
 ghost use Rattle.reading.specs.Reading.{Fills};
 ghost use Rattle.tally.specs.Counting.{largest};
 ghost use Rattle.standing.specs.Standing.{ahead};
-ghost use Rattle.reporting.specs.Run.{Turning, Reported};
+ghost use Rattle.report_run.specs.Run.{Turning, Reported};
 ghost use Rattle.reporting.specs.Inner.Turn.{Turn};
 use libc::STDERR_FILENO;
 use reading::Filled;
@@ -71,6 +69,25 @@ fn turns(opened: Progress) -> Progress
     progress
 }
 
+// Prints the count of leftover bytes and the last line, if the input is at its end.
+fn close(run: Progress) -> Progress
+    requires { ⌜ Turning largest run ⌝ }
+    ensures { λ r. ⌜ Reported r ⌝ }
+{
+    let stand = run.stand;
+    let Stand::AtEnd(left) = stand else {
+        return run;
+    };
+    let counts = run.counts;
+    let tailed = saying::tail(left, counts);
+    let reached = tailed.stand;
+    let Stand::Closing = reached else {
+        return tailed;
+    };
+    let counted = tailed.counts;
+    saying::last(counted)
+}
+
 // Says on standard error what failed.
 fn complain(stand: Stand) {
     match stand {
@@ -93,7 +110,7 @@ pub fn report() -> Progress
     ensures { λ r. ⌜ Reported r ⌝ }
 {
     let run = turns(saying::open());
-    let closed = saying::close(run);
+    let closed = close(run);
     let stand = closed.stand;
     complain(stand);
     closed

@@ -11,6 +11,7 @@ pub mod Lengths
 pub mod Fresh
 pub mod Back
 pub mod Beside
+pub mod Moving
 
 -- of the rows that wait ds steps, the waits that are not 0
 unfoldable pub waits : List ℕ → List ℕ

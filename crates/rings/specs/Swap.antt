@@ -7,6 +7,10 @@ use lib.Dec.{ltb, leb}
 use lib.ListN.{length, take, drop, getD, set}
 pub mod Lines
 pub mod Parts
+pub mod Rest
+pub mod Swapping
+pub mod Clamped
+pub mod Marked
 
 -- whether a row that waits d steps has a place, below d, and its ring is whole
 abbrev pub rowFits : ℕ → List ℕ → List ℕ → Bool

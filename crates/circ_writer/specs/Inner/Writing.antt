@@ -6,7 +6,6 @@ use mathlib.Core.Bool.{true}
 use mathlib.Core.List.{List}
 use lib.ListN.{length}
 use Rattle.rings.specs.Rings.{waits, below, onward, unrolledAll}
-use Rattle.circ.specs.Rows.{inverted}
 use Rattle.circ.specs.Chains.{writerOut, writerNext}
 use Rattle.circ.specs.Codes.{qOf, pOf}
 use Rattle.circ.specs.Rings.{writerWaits}
@@ -15,11 +14,6 @@ pub record WriterAsks (places frame out : List ℕ) : Type 0 where
   pub incoming : length frame ≡ 24
   pub outgoing : length out ≡ 32
   pub in-place : below (waits writerWaits) places ≡ true
-
--- what three turns make of store and word, before the places go on
-pub record WriterTurned (places store frame store' word : List ℕ) : Type 0 where
-  pub line-is : unrolledAll writerWaits (onward (waits writerWaits) places) store' ≡ writerNext qOf pOf (unrolledAll writerWaits places store) frame
-  pub word-is : inverted word ≡ writerOut qOf pOf (unrolledAll writerWaits places store) frame
 
 pub record WriterGone (places store frame places' store' out : List ℕ) : Type 0 where
   pub places-are : places' ≡ onward (waits writerWaits) places

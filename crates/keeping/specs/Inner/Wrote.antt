@@ -2,12 +2,11 @@
 -- Assumes nothing.
 use mathlib.Core.Path.{_≡_}
 use mathlib.Core.List.{List}
-use Prim.Native.Nat.{ℕ, _%_, _≤_}
+use Prim.Native.Nat.{ℕ, _≤_}
 use lib.ListN.{length, replicate}
 use Rattle.captures.specs.Kept.{runList, filled}
 
 pub record Ready (capture list : List ℕ) : Type 0 where
-  pub even : length capture % 2 ≡ 0
   pub short : length capture ≤ 65536
   pub zeros : list ≡ replicate 98304 0
 

@@ -37,10 +37,7 @@ slice-aggregate-tell-each-2 : tie.Need-slice-aggregate-tell-each-2
 slice-aggregate-tell-each-2 c = sym (long-out (c .before .before))
 
 tell-each-requires : tie.Need-tell-each-requires
-tell-each-requires c κs =
-    let w = c .before .before in
-    let s = w .before .before .before in
-    some-came (s .args .counts) (s .args .filled) (s .pre .2) _ (long-in w ∙ w .whole-bytes .ensures) _ (long-out w ∙ sym (long-in w))
+tell-each-requires c κs = search needs
 
 over-requires : tie.Need-over-requires
 over-requires c κs = search needs
@@ -53,7 +50,8 @@ returns c =
     let t = c .before .before .before .before .tell-each in
     let w = c .before .before .before .before .before .before .before in
     let s = w .before .before .before in
-    turn-over (s .args .counts) (s .args .filled) (s .pre .2) _ (long-in w ∙ w .whole-bytes .ensures) (t .result) (t .ensures)
+    turn-over (s .args .counts) (s .args .filled) (s .pre .2) _ (long-in w ∙ w .whole-bytes .ensures) (t .result) (t .ensures .some
+    (some-came (s .args .counts) (s .args .filled) (s .pre .2) _ (long-in w ∙ w .whole-bytes .ensures) _ (long-out w ∙ sym (long-in w))))
     (sym (c .before .over .ensures) ∙ c .if1 .taken)
 
 stand-after-requires : tie.Need-stand-after-requires
@@ -67,7 +65,8 @@ returns-2 c =
     let t = c .before .before .before .before .before .before .tell-each in
     let w = c .before .before .before .before .before .before .before .before .before in
     let s = w .before .before .before in
-    turn-on (s .args .counts) (s .args .filled) (s .pre .2) _ (long-in w ∙ w .whole-bytes .ensures) (t .result) (c .stand-after .result) (t .ensures)
+    turn-on (s .args .counts) (s .args .filled) (s .pre .2) _ (long-in w ∙ w .whole-bytes .ensures) (t .result) (c .stand-after .result) (t .ensures .some
+    (some-came (s .args .counts) (s .args .filled) (s .pre .2) _ (long-in w ∙ w .whole-bytes .ensures) _ (long-out w ∙ sym (long-in w))))
     (sym (c .before .before .before .over .ensures) ∙ c .before .before .if1 .left) (c .stand-after .ensures)
 
 pub tell-whole-spec : {M : Type 1} → statement M

@@ -9,7 +9,7 @@ use borrow.Author.Needs.{needs}
 use lib.ListN.{length}
 use Rattle.tally.specs.Counting.{largest}
 use Rattle.standing.specs.Standing.{isOver}
-use Rattle.reporting.specs.Run.{Turning}
+use Rattle.report_run.specs.Run.{Turning}
 use Rattle.reporting.proofs.Steps.{turned-over}
 use Rattle.reporting.proofs.Reaching.{ends-there, goes-on}
 use Rattle.reporting.proofs.turns.Statement.{statement}

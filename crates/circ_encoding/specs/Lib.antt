@@ -1,0 +1,2 @@
+-- clause 17, Annex C, over rings
+pub mod Encoding

@@ -1,2 +1,0 @@
-mod Parities
-mod Turning

@@ -1,0 +1,2 @@
+-- the run of a report
+pub mod Run

@@ -1,0 +1,1 @@
+// The run of a report (document 01, "The report"): definitions and laws only.

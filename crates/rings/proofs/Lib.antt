@@ -1,5 +1,0 @@
-mod Rest
-mod Swapping
-mod Moving
-mod Clamped
-mod Marked
