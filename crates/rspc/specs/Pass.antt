@@ -1,4 +1,4 @@
--- A pass over the codewords of one parity of a Sector (Annex A): each that has a codeword near becomes that one, the others stay.
+-- A pass over the codewords of one parity of a Sector (document 02, §10, over the codewords of Annex A): each that has a codeword near becomes that one, the others stay.
 -- Assumes nothing.
 use mathlib.Core.Path.{_≡_}
 use mathlib.Core.Bool.{Bool, true, false}

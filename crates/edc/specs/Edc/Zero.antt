@@ -1,4 +1,4 @@
--- The test for a remainder 0, on the list and on the numberLowFirst.
+-- The test for a remainder 0, on the list and on the number.
 -- Assumes nothing.
 use mathlib.Core.Path.{_≡_, refl, sym, ap, _∙_}
 use mathlib.Core.Bool.{Bool, true, _&&_}
@@ -20,7 +20,7 @@ test-divisible bytes e = zero-is (remainder (bits bytes)) e ∙ ap (λ (n : ℕ)
 pub divisible-test : (bytes : List ℕ) → Divisible bytes → isZero (remainder (bits bytes)) ≡ true
 divisible-test bytes e = ap isZero e ∙ is-zero 32
 
--- the same test on the numberLowFirst
+-- the same test on the number
 pub zero-number : (cs : List ℕ) → isZero cs ≡ eqb (numberLowFirst cs) 0
 unfolding numberLowFirst
 zero-number [] = refl
