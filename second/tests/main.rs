@@ -1,0 +1,21 @@
+//! This program held against the proved code. All tests are one program, since each that is linked with the proved code takes its time to build.
+
+mod alignment;
+mod captures;
+mod circ;
+mod circ_rings;
+mod codewords;
+mod control;
+mod data_frames;
+mod edc;
+mod empties;
+mod field;
+mod images;
+mod lanes;
+mod lost_frames;
+mod program;
+mod report;
+mod road;
+mod scrambling;
+mod sections;
+mod sectors;
