@@ -2,6 +2,7 @@
 
 mod carrying;
 
+use crate::of_lengths;
 use second::codeword::fill;
 use second::data_frame::*;
 use second::proved::{self, Told};
@@ -71,29 +72,17 @@ fn wrong_lengths() {
     let fields = some_fields(&mut random);
     for main in [0, 2047, 2048, 2049] {
         for out in [0, 2063, 2064, 2065] {
-            let expected = if main != 2048 {
-                1
-            } else if out != 2064 {
-                2
-            } else {
-                0
-            };
-            assert_eq!(same_written(fields, &random.bytes(main), out).0, expected);
+            let (answer, _) = same_written(fields, &random.bytes(main), out);
+            assert_eq!(answer, of_lengths(main == 2048, out == 2064));
         }
     }
     let frame = some_frame(&mut random);
     for length in [0, 6, 2063, 2064, 2065] {
         for main in [0, 2047, 2048, 2049] {
-            let expected = if length != 2064 {
-                1
-            } else if main != 2048 {
-                2
-            } else {
-                0
-            };
             let mut incoming = frame.clone();
             incoming.resize(length, 0);
-            assert_eq!(same_read(&incoming, main).0.number, expected);
+            let (told, _) = same_read(&incoming, main);
+            assert_eq!(told.number, of_lengths(length == 2064, main == 2048));
         }
     }
 }

@@ -19,3 +19,12 @@ mod road;
 mod scrambling;
 mod sections;
 mod sectors;
+
+/// The refusal that lengths ask for, by whether the incoming and the outgoing ones are right: 1 before 2.
+fn of_lengths(incoming: bool, outgoing: bool) -> u8 {
+    match (incoming, outgoing) {
+        (false, _) => 1,
+        (true, false) => 2,
+        (true, true) => 0,
+    }
+}

@@ -1,5 +1,6 @@
 //! Proved scrambling and F1-frames against this program, which makes the sequence by the register.
 
+use crate::of_lengths;
 use second::proved::{self, number_of};
 use second::random::Random;
 use second::refusal::Refusal;
@@ -49,11 +50,7 @@ fn lengths() {
     for &incoming in &lengths {
         for &outgoing in &lengths {
             let bytes = random.bytes(incoming);
-            let expected = match (incoming == LENGTH, outgoing == LENGTH) {
-                (false, _) => 1,
-                (true, false) => 2,
-                (true, true) => 0,
-            };
+            let expected = of_lengths(incoming == LENGTH, outgoing == LENGTH);
             for step in STEPS {
                 assert_eq!(same(step, &bytes, outgoing).0, expected);
             }

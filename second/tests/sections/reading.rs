@@ -1,6 +1,7 @@
 //! Reading: damaged bits, lost Sync Headers, SYNCs and words out of place, and lengths.
 
 use super::*;
+use crate::of_lengths;
 
 fn flip(channel: &mut [u8], bit: usize) {
     channel[bit / 8] ^= 0x80 >> (bit % 8);
@@ -118,12 +119,8 @@ fn lengths() {
         for bytes in [0, 3233, 3234, 3235] {
             for marks in [0, 3233, 3234, 3235, 7203] {
                 let (answer, _) = same_read(&channel[..incoming], [bytes, marks]);
-                let expected = match (incoming == PACKED, [bytes, marks] == [READ_BYTES; 2]) {
-                    (false, _) => 1,
-                    (true, false) => 2,
-                    (true, true) => 0,
-                };
-                assert_eq!(answer, expected);
+                let right = [bytes, marks] == [READ_BYTES; 2];
+                assert_eq!(answer, of_lengths(incoming == PACKED, right));
             }
         }
     }

@@ -1,6 +1,7 @@
 //! Writing: bytes of every kind, and states at the edges of refusals 9 and 7.
 
 use super::*;
+use crate::of_lengths;
 
 /// From the state on; and what was written is read back on both sides.
 fn there_and_back(state: &mut SectionWriter, frames: &[u8], control: &[u8]) {
@@ -85,10 +86,9 @@ fn lengths() {
         for control in [0, 95, 96, 97, 98] {
             for out in [0, 7202, 7203, 7204, 8000] {
                 for (number, before) in states {
-                    let expected = match (frames == 3136 && control == 96, out == 7203) {
-                        (false, _) => 1,
-                        (true, false) => 2,
-                        (true, true) => number,
+                    let expected = match of_lengths([frames, control] == [3136, 96], out == 7203) {
+                        0 => number,
+                        refusal => refusal,
                     };
                     let mut state = before;
                     let (frames, control) = (random.bytes(frames), random.bytes(control));
