@@ -2,22 +2,31 @@
 
 mod batches;
 mod damaged;
+mod judging;
 mod refusals;
 mod salvage;
 
 use second::codeword::fill;
+use second::edc;
+use second::proved::{self, Told};
 use second::random::Random;
 use second::sector::*;
-use second::{edc, proved};
 
-/// Judges and repairs a Sector on both sides; what repair handed out, with the changed count.
-fn same_judged_and_repaired(received: &[u8]) -> Option<(usize, Vec<u8>)> {
+/// What judging says of a Sector on both sides.
+fn same_judged(received: &[u8]) -> Told<4> {
     let address = |passed: Passed| {
         [passed.mode, passed.address[0], passed.address[1], passed.address[2]]
             .map(usize::from)
             .to_vec()
     };
-    assert_eq!(proved::judge(received), proved::told_of(judge(received), address));
+    let told = proved::judge(received);
+    assert_eq!(told, proved::told_of(judge(received), address));
+    told
+}
+
+/// Judges and repairs a Sector on both sides; what repair handed out, with the changed count.
+fn same_judged_and_repaired(received: &[u8]) -> Option<(usize, Vec<u8>)> {
+    same_judged(received);
     same_repaired(received, LENGTH)
 }
 
@@ -29,12 +38,12 @@ fn same_repaired(received: &[u8], out_length: usize) -> Option<(usize, Vec<u8>)>
     answer.ok().map(|count| (count, found))
 }
 
-fn same_written(mode: u8, address: [u8; 3], data: &[u8], out_length: usize) -> Vec<u8> {
+fn same_written(mode: u8, address: [u8; 3], data: &[u8], out_length: usize) -> (u8, Vec<u8>) {
     let (mut expected, mut found) = (vec![0xAA; out_length], vec![0xAA; out_length]);
     let answer = proved::number_of(write(mode, address, data, &mut expected));
     assert_eq!(proved::write(mode, address, data, &mut found), answer);
     assert!(found == expected);
-    found
+    (answer, found)
 }
 
 /// A correct Sector: of random data by the proved writer in Modes 01 and 02, of an old disc in Mode 00.
