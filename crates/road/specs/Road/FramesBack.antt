@@ -13,14 +13,15 @@ use Rattle.outcome.specs.Say.{done}
 use Rattle.calls.specs.Step.{Step, step}
 use Rattle.calls.specs.Calls.Firsts.{length-firsts, begins}
 use Rattle.circ.specs.Marks.{lostBy}
+use Rattle.circ.specs.Rings.{freshReaderRings}
 use Rattle.circ.specs.Rings.Alike.{asLines}
 use Rattle.circ_streams.specs.Streams.{NoneLost, roundTrip}
-use Rattle.circ_streams.specs.Calls.{Call, MarkedFrame, marked, writerDone, readerDone, writerFrames, readerFrames, outs}
+use Rattle.circ_streams.specs.Calls.{Call, MarkedFrame, marked, readerInPlace, writerDone, readerDone, writerFrames, readerFrames, outs}
 use Rattle.circ_streams.specs.Calls.Alike.{reader-done-alike}
 use Rattle.circ_streams.specs.Calls.Streams.{reader-calls}
 use Rattle.circ_streams.specs.Calls.ThereAndBack.{framesOf, marksOf, calls-there-and-back, calls-zeros-before}
 use Rattle.road.specs.Road.{OfBytes, callsWith, left, encoded, unmarked, decoding}
-use Rattle.road.specs.Inner.Fits.{writer-takes, reader-takes, left-as-lines}
+use Rattle.road.specs.Inner.Fits.{writer-takes, reader-takes, as-lines, left-as-lines}
 use Rattle.road.specs.Inner.Made.{f1-frames, encoded-outs, length-encoded, encoded-of}
 
 -- none of these marks says that its byte is lost
@@ -76,7 +77,9 @@ module _ (f1 : List (List ℕ)) (rows : OfBytes 24 f1) where
 
   lines : map asLines (decoding came) ≡ readerDone ds
   unfolding decoding
-  lines = reader-done-alike ds
+  lines =
+      as-lines readerInPlace freshReaderRings ds (readerDone ds) (reader-done-alike ds)
+      (long ∙ sym (length-map came (λ x. record { incoming = x; out = replicate 24 0 }) ∙ length-map (encoded f1) unmarked ∙ length-encoded f1 rows))
 
   -- zeros behind the steps
   abbrev z : Step (List ℕ)
