@@ -1,6 +1,6 @@
--- The whole road, down and up. Down: Sectors in a row are scrambled (clause 15) and placed in F1-frames (clause 16); CIRC makes F2-frames of these (clause 17);
--- 98 of them and 96 Control bytes go into each Section (clauses 18 to 20). Up: the same the other way round.
--- Each step is what the function of that name is proved to do, with buffers of the right lengths; those that carry a state begin with `new()`.
+-- The whole road, down and up. Down: Sectors in a row are scrambled (clause 15) and placed in F1-frames (clause 16), CIRC makes F2-frames of these (clause 17),
+-- and 98 of them with 96 Control bytes make a Section (clauses 18 and 19). Up: the same undone, the last first.
+-- Each step is what its public function is proved to do, with buffers of the right lengths; what carries a state begins with `new()`.
 -- Assumes nothing.
 use mathlib.Core.Path.{_≡_}
 use mathlib.Core.List.{List, [], _∷_, map, flatten, flatMap}
@@ -19,8 +19,9 @@ use Rattle.section_state.specs.Carried.{mostSections}
 use Rattle.section_writer.specs.declared.SectionWriter.{SectionWriter}
 use Rattle.section_writer.specs.State.{fresh}
 use Rattle.section_writer.specs.WriteSay.{written}
-pub mod SectionsBack
+pub mod SectorsBack
 pub mod FramesBack
+pub mod SectionsBack
 pub mod ThereAndBack
 
 -- each of these is n bytes

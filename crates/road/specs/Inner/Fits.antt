@@ -13,7 +13,7 @@ use Rattle.circ.specs.Rings.{Rings}
 use Rattle.circ.specs.Rings.Alike.{asLines}
 use Rattle.circ.specs.Steps.{fitsWriter}
 use Rattle.circ.specs.Steps.Fits.{both-fit}
-use Rattle.circ_streams.specs.Calls.{fitsBoth, fitting, incomings, writerFrames, readerFrames, outs}
+use Rattle.circ_streams.specs.Calls.{fitsBoth, fitting, incomings, writerFrames, readerFrames}
 use Rattle.road.specs.Road.{OfBytes, callsWith, left, unmarked}
 
 -- one call more that fits
@@ -67,6 +67,6 @@ as-lines does s cs ts e l =
     ap (map asLines) (sym (all-done (run does s cs) (omega (arith, length-run does cs s, ap length e, length-map (doneOf (run does s cs)) asLines)))) ∙ e
 
 -- what the steps leave, wherever the bytes stand that wait
-pub left-as-lines : (ts : List (Step Rings)) → left ts ≡ outs (map asLines ts)
+pub left-as-lines : (ts : List (Step Rings)) → left ts ≡ left (map asLines ts)
 left-as-lines [] = refl
 left-as-lines (t ∷ ts) = ap (λ (l : List (List ℕ)). t .out ∷ l) (left-as-lines ts)

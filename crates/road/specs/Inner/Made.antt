@@ -18,16 +18,17 @@ use Rattle.circ.specs.Chains.{writerAt, c1Word}
 use Rattle.circ.specs.Codes.{qOf, pOf}
 use Rattle.circ.specs.Rings.{freshWriterRings}
 use Rattle.circ_streams.specs.Streams.{F1Frames, F2Frames, f2At}
-use Rattle.circ_streams.specs.Calls.{Call, writerInPlace, writerDone, writerFrames, outs}
+use Rattle.circ_streams.specs.Calls.{Call, writerInPlace, writerDone, writerFrames}
 use Rattle.circ_streams.specs.Calls.Alike.{writer-done-alike}
 use Rattle.circ_streams.specs.Calls.Streams.{writer-calls}
 use Rattle.circ_streams.specs.Inner.AsWritten.{length-written}
 use Rattle.circ_streams.specs.Inner.Codes.{circ-coding}
 use Rattle.circ_streams.specs.Inner.WriterWords.{rowsWritten, written-is, wide₃, bytes-c1}
-use Rattle.road.specs.Road.{OfBytes, callsWith, encoded}
+use Rattle.road.specs.Road.{OfBytes, callsWith, left, encoded}
 use Rattle.road.specs.Inner.Lists.{of-at, of-firsts}
 use Rattle.road.specs.Inner.Fits.{writer-takes, as-lines, left-as-lines}
 
+-- the mask is two halves of 16 bytes
 bytes-mask : Bytes mask
 unfolding mask
 bytes-mask =
@@ -36,7 +37,7 @@ bytes-mask =
     bytes-append half half bytes bytes
 
 -- the F2-frames of a stream of F1-frames
-pub f2-frames : (f : ℕ → List ℕ) → F1Frames f → F2Frames (λ n. f2At f n)
+f2-frames : (f : ℕ → List ℕ) → F1Frames f → F2Frames (λ n. f2At f n)
 unfolding inverted
 f2-frames f frames =
     record {
@@ -74,16 +75,16 @@ module _ (f1 : List (List ℕ)) (rows : OfBytes 24 f1) where
       ∙ length-firsts (λ n. step (done []) (writerAt qOf pOf stream (suc n)) (f2At stream n)) 0 (length f1)
       ∙ sym (length-map f1 (λ x. record { incoming = x; out = replicate 32 0 }))
 
-  pub encoded-outs : encoded f1 ≡ outs (writerDone cs)
+  pub encoded-left : encoded f1 ≡ left (writerDone cs)
   unfolding encoded
-  encoded-outs =
+  encoded-left =
       left-as-lines (run writerInPlace freshWriterRings cs)
-      ∙ ap outs (as-lines writerInPlace freshWriterRings cs (writerDone cs) (writer-done-alike cs) many)
+      ∙ ap left (as-lines writerInPlace freshWriterRings cs (writerDone cs) (writer-done-alike cs) many)
 
   encoded-is : encoded f1 ≡ firsts (λ n. f2At stream n) 0 (length f1)
   encoded-is =
-      encoded-outs
-      ∙ ap outs done-is
+      encoded-left
+      ∙ ap left done-is
       ∙ map-firsts (λ (t : Step (List ℕ)). t .out) (λ n. step (done []) (writerAt qOf pOf stream (suc n)) (f2At stream n)) 0 (length f1)
 
   pub length-encoded : length (encoded f1) ≡ length f1

@@ -1,4 +1,4 @@
--- Sections and back: what is read of Sections that were written of F2-frames and Control bytes is these F2-frames again, in order, none of their bytes marked.
+-- Sections and back: what is read of Sections is the F2-frames and the Control bytes that they were written of, in order, and no byte of the frames is marked.
 -- Assumes nothing.
 use mathlib.Core.Path.{_≡_, refl, sym, ap, ap₂, _∙_}
 use mathlib.Core.Bool.{true}
