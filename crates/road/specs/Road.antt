@@ -1,26 +1,27 @@
--- The whole road, down and up. Down: Sectors in a row are scrambled (clause 15) and placed in F1-frames (clause 16); CIRC makes F2-frames of these (clause 17);
--- 98 of them and 96 Control bytes go into each Section (clauses 18 to 20). Up: the same the other way round.
--- Each step is what the function of that name is proved to do, with buffers of the right lengths; those that carry a state begin with `new()`.
+-- The whole road, down and up. Down: Sectors in a row are scrambled (clause 15) and placed in F1-frames (clause 16), CIRC makes F2-frames of these (clause 17),
+-- and 98 of them with 96 Control bytes make a Section (clauses 18 and 19). Up: the same undone, the last first.
+-- Each step is what its public function is proved to do, with buffers of the right lengths; what carries a state begins with `new()`.
 -- Assumes nothing.
 use mathlib.Core.Path.{_≡_}
 use mathlib.Core.List.{List, [], _∷_, map, flatten, flatMap}
 use Prim.Native.Nat.{ℕ, zero, suc, _+_, _*_, _/_, _≤_}
-use lib.ListN.{length, take, drop, replicate}
+use lib.ListN.{length, getD, take, drop, replicate}
 use Rattle.outcome.specs.Bytes.{Bytes}
+use Rattle.outcome.specs.Table.{tabulated}
 use Rattle.calls.specs.Step.{Step}
-use Rattle.calls.specs.Calls.{run, doneOf, firsts}
+use Rattle.calls.specs.Calls.{run, firsts}
 use Rattle.scrambling.specs.Scramble.{scrambled}
 use Rattle.f1_frames.specs.Frames.{frame, cut, join}
 use Rattle.circ.specs.Rings.{Rings, freshWriterRings, freshReaderRings}
-use Rattle.circ_streams.specs.Streams.{roundTrip}
 use Rattle.circ_streams.specs.Calls.{Call, MarkedFrame, marked, writerInPlace, readerInPlace}
 use Rattle.section_reader.specs.ReadSay.{ReadOut, sectionRead}
 use Rattle.section_state.specs.Carried.{mostSections}
 use Rattle.section_writer.specs.declared.SectionWriter.{SectionWriter}
 use Rattle.section_writer.specs.State.{fresh}
 use Rattle.section_writer.specs.WriteSay.{written}
-pub mod SectionsBack
+pub mod SectorsBack
 pub mod FramesBack
+pub mod SectionsBack
 pub mod ThereAndBack
 
 -- each of these is n bytes
@@ -51,7 +52,7 @@ framesOf sector = firsts (λ f. frame f (cut (scrambled sector))) 0 98
 
 -- the F2-frames that a CIRC writer makes of F1-frames
 unfoldable pub encoded : List (List ℕ) → List (List ℕ)
-encoded f1 = left (doneOf (run writerInPlace freshWriterRings (callsWith 32 f1)))
+encoded f1 = left (run writerInPlace freshWriterRings (callsWith 32 f1))
 
 -- what goes into a Section: 98 F2-frames one after the other, and 96 Control bytes
 pub record Content : Type 0 where
@@ -81,21 +82,25 @@ readOf section = sectionRead section (replicate 3234 0) (replicate 3234 0)
 abbrev pub controlPlaces : ℕ
 controlPlaces = 1
 
--- the other 32 of frame f go on
+-- the other 32 of frame f
 abbrev pub behindControl : ℕ → List ℕ → List ℕ
 behindControl f places = take 32 (drop (33 * f + controlPlaces) places)
+
+-- the 98 F2-frames of a Section that was read, with their marks
+unfoldable pub framesRead : ReadOut → List MarkedFrame
+framesRead r = firsts (λ f. marked (behindControl f (r .bytes)) (behindControl f (r .marks))) 0 98
+
+-- its 96 Control bytes: the first two frames have SYNCs in their place
+unfoldable pub controlRead : ReadOut → List ℕ
+controlRead r = tabulated (λ i. getD (r .bytes) (33 * (i + 2)) 0) 0 96
 
 -- a frame of which no byte is marked
 abbrev pub unmarked : List ℕ → MarkedFrame
 unmarked w = marked w (replicate 32 0)
 
--- the 98 frames that are read of a Section, with their marks
-unfoldable pub framesRead : List ℕ → List MarkedFrame
-framesRead section = firsts (λ f. marked (behindControl f (readOf section .bytes)) (behindControl f (readOf section .marks))) 0 98
-
--- the steps of a CIRC reader into which they go
+-- the steps of a CIRC reader for F2-frames
 unfoldable pub decoding : List MarkedFrame → List (Step Rings)
-decoding f2 = doneOf (run readerInPlace freshReaderRings (callsWith 24 f2))
+decoding f2 = run readerInPlace freshReaderRings (callsWith 24 f2)
 
 -- n Sectors, of 98 F1-frames each
 unfoldable pub sectorsOf : ℕ → List (List ℕ) → List (List ℕ)
@@ -106,10 +111,14 @@ sectorsOf (suc n) f1 = scrambled (join (flatten (take 98 f1))) ∷ sectorsOf n (
 abbrev pub wholeSectors : List (List ℕ) → List (List ℕ)
 wholeSectors f1 = sectorsOf (length f1 / 98) f1
 
+-- "an F1-frame written at step n, undamaged, is read at step n+111" (document 01, "CIRC")
+abbrev pub late : ℕ
+late = 111
+
 -- the CIRC reader's steps over all Sections
 abbrev pub stepsUp : List (List ℕ) → List (Step Rings)
-stepsUp sections = decoding (flatMap framesRead sections)
+stepsUp sections = decoding (flatMap framesRead (map readOf sections))
 
--- UP: the Sectors of Sections. The first F1-frame comes out of CIRC 111 frames late.
+-- UP: the Sectors of Sections
 unfoldable pub up : List (List ℕ) → List (List ℕ)
-up sections = wholeSectors (drop roundTrip (left (stepsUp sections)))
+up sections = wholeSectors (drop late (left (stepsUp sections)))

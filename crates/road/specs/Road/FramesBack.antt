@@ -13,15 +13,16 @@ use Rattle.outcome.specs.Say.{done}
 use Rattle.calls.specs.Step.{Step, step}
 use Rattle.calls.specs.Calls.Firsts.{length-firsts, begins}
 use Rattle.circ.specs.Marks.{lostBy}
+use Rattle.circ.specs.Rings.{freshReaderRings}
 use Rattle.circ.specs.Rings.Alike.{asLines}
 use Rattle.circ_streams.specs.Streams.{NoneLost, roundTrip}
-use Rattle.circ_streams.specs.Calls.{Call, MarkedFrame, marked, writerDone, readerDone, writerFrames, readerFrames, outs}
+use Rattle.circ_streams.specs.Calls.{Call, MarkedFrame, marked, readerInPlace, writerDone, readerDone, writerFrames, readerFrames}
 use Rattle.circ_streams.specs.Calls.Alike.{reader-done-alike}
 use Rattle.circ_streams.specs.Calls.Streams.{reader-calls}
 use Rattle.circ_streams.specs.Calls.ThereAndBack.{framesOf, marksOf, calls-there-and-back, calls-zeros-before}
 use Rattle.road.specs.Road.{OfBytes, callsWith, left, encoded, unmarked, decoding}
-use Rattle.road.specs.Inner.Fits.{writer-takes, reader-takes, left-as-lines}
-use Rattle.road.specs.Inner.Made.{f1-frames, encoded-outs, length-encoded, encoded-of}
+use Rattle.road.specs.Inner.Fits.{writer-takes, reader-takes, as-lines, left-as-lines}
+use Rattle.road.specs.Inner.Made.{f1-frames, encoded-left, length-encoded, encoded-of}
 
 -- none of these marks says that its byte is lost
 none-marked : (ws : List (List ℕ)) (n : ℕ) → getD (marksOf (map unmarked ws)) n (replicate 32 0) ≡ replicate 32 0
@@ -62,8 +63,8 @@ module _ (f1 : List (List ℕ)) (rows : OfBytes 24 f1) where
   bytes : (n : ℕ) → Bytes (getD (writerFrames cs) n (replicate 24 0))
   bytes n = subst (λ (w : List (List ℕ)). Bytes (getD w n (replicate 24 0))) (sym (writer-takes f1 rows)) (f1-frames f1 rows .bytes n)
 
-  fed : framesOf (readerFrames ds) ≡ outs (writerDone cs)
-  fed = ap framesOf takes ∙ frames-unmarked (encoded f1) ∙ encoded-outs f1 rows
+  fed : framesOf (readerFrames ds) ≡ left (writerDone cs)
+  fed = ap framesOf takes ∙ frames-unmarked (encoded f1) ∙ encoded-left f1 rows
 
   none : NoneLost (λ n. getD (marksOf (readerFrames ds)) n (replicate 32 0))
   none n i =
@@ -76,14 +77,16 @@ module _ (f1 : List (List ℕ)) (rows : OfBytes 24 f1) where
 
   lines : map asLines (decoding came) ≡ readerDone ds
   unfolding decoding
-  lines = reader-done-alike ds
+  lines =
+      as-lines readerInPlace freshReaderRings ds (readerDone ds) (reader-done-alike ds)
+      (long ∙ sym (length-map came (λ x. record { incoming = x; out = replicate 24 0 }) ∙ length-map (encoded f1) unmarked ∙ length-encoded f1 rows))
 
   -- zeros behind the steps
   abbrev z : Step (List ℕ)
   z = step (done (0 ∷ [])) [] (replicate 24 0)
 
   -- never in doubt
-  pub never-in-doubt : map (λ t. t .say) (decoding came) ≡ replicate (length f1) (done (0 ∷ []))
+  pub never-in-doubt : map (λ t. t .say) (decoding (map unmarked (encoded f1))) ≡ replicate (length f1) (done (0 ∷ []))
   never-in-doubt =
       sym (map-map (λ (t : Step (List ℕ)). t .say) asLines (decoding came))
       ∙ ap (map (λ (t : Step (List ℕ)). t .say)) lines
@@ -102,16 +105,16 @@ module _ (f1 : List (List ℕ)) (rows : OfBytes 24 f1) where
           subst (λ (m : ℕ). getD (readerDone ds) m z .say ≡ done (0 ∷ [])) e (calls-there-and-back cs ds bytes fed none (n - roundTrip) z (omega arith) .0)
 
   -- from step 111 on the frames that went in
-  pub frames-back : drop roundTrip (left (decoding came)) ≡ take (length f1 - roundTrip) f1
+  pub frames-back : drop roundTrip (left (decoding (map unmarked (encoded f1)))) ≡ take (length f1 - roundTrip) f1
   frames-back =
-      ap (drop roundTrip) (left-as-lines (decoding came) ∙ ap outs lines)
-      ∙ ext-getD (replicate 24 0) (drop roundTrip (outs (readerDone ds))) (take (length f1 - roundTrip) f1)
-      (length-drop roundTrip (outs (readerDone ds)) ∙ ap (λ (n : ℕ). n - roundTrip) (length-map (readerDone ds) (λ t. t .out) ∙ long)
+      ap (drop roundTrip) (left-as-lines (decoding came) ∙ ap left lines)
+      ∙ ext-getD (replicate 24 0) (drop roundTrip (left (readerDone ds))) (take (length f1 - roundTrip) f1)
+      (length-drop roundTrip (left (readerDone ds)) ∙ ap (λ (n : ℕ). n - roundTrip) (length-map (readerDone ds) (λ t. t .out) ∙ long)
       ∙ sym (length-take-le (length f1 - roundTrip) f1 (omega arith)))
       (λ n l.
       let m : n < length f1 - roundTrip
-      = omega (arith, long, length-drop roundTrip (outs (readerDone ds)), length-map (readerDone ds) (λ (t : Step (List ℕ)). t .out)) in
-      getD-drop roundTrip (outs (readerDone ds)) n (replicate 24 0)
+      = omega (arith, long, length-drop roundTrip (left (readerDone ds)), length-map (readerDone ds) (λ (t : Step (List ℕ)). t .out)) in
+      getD-drop roundTrip (left (readerDone ds)) n (replicate 24 0)
       ∙ List·getD-map (λ (t : Step (List ℕ)). t .out) (readerDone ds) (roundTrip + n) z
       ∙ calls-there-and-back cs ds bytes fed none n z (omega (arith, long)) .1
       ∙ ap (λ (w : List (List ℕ)). getD w n (replicate 24 0)) (writer-takes f1 rows)
