@@ -18,7 +18,7 @@ unmarked-front m i h e =
     ap weight (drop-cons m i 0 h)
     ∙ omega (arith, unlike-same (getD m i 0) 0 e, ap (λ (k : ℕ). weight (drop k m)) (add-one i))
 
-marked-front : (m : List ℕ) (i : ℕ) → i < length m → (getD m i 0 ≡ 0 → ⊥) → weight (drop i m) ≡ 1 + weight (drop (i + 1) m)
+pub marked-front : (m : List ℕ) (i : ℕ) → i < length m → (getD m i 0 ≡ 0 → ⊥) → weight (drop i m) ≡ 1 + weight (drop (i + 1) m)
 unfolding weight
 marked-front m i h n =
     ap weight (drop-cons m i 0 h)

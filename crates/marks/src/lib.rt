@@ -1,11 +1,11 @@
 // Marks (document 02, §7): one that is not 0 says that its byte is lost.
 ghost use mathlib.Core.Path.{_≡_};
-ghost use mathlib.Core.Bool.{true};
+ghost use lib.Dec.{eqb};
 ghost use Rattle.codeword.specs.Code.{weight};
 
 // Whether none is marked: a look that a processor takes at many bytes at a time.
 fn unmarked(marks: &[u8]) -> bool
-    ensures { λ r. ⌜ (r ≡ true → weight (now (marks .entry)) ≡ 0) ⌝ }
+    ensures { λ r. ⌜ r ≡ eqb (weight (now (marks .entry))) 0 ⌝ }
 {
     let mut any: u8 = 0;
     let mut i: usize = 0;
@@ -32,7 +32,7 @@ fn counted(marks: &[u8]) -> usize
 }
 
 // How many bytes are marked; mostly none is.
-pub fn marked(marks: &[u8]) -> usize
+pub fn count_marked(marks: &[u8]) -> usize
     ensures { λ r. ⌜ r ≡ weight (now (marks .entry)) ⌝ }
 {
     if unmarked(marks) {

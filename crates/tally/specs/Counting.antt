@@ -1,4 +1,4 @@
--- Counting Sectors by their fates, as far as a u64 goes.
+-- Counting Sectors by their fates (document 01, "The report"), as far as a u64 goes.
 -- Assumes nothing.
 use mathlib.Core.Bool.{cond}
 use Prim.Native.Nat.{ℕ, _+_, _-_, _^_}

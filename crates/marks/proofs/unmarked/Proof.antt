@@ -1,4 +1,4 @@
--- `marks::unmarked` meets its contract: where nothing was met before i, as many are marked from there on as in all (`Seen`).
+-- `marks::unmarked` meets its contract: nothing was met before i and none is marked from there on, exactly where none is marked at all (`Seen`).
 -- Assumes nothing.
 use Prim.Native.Nat.{_-_}
 use borrow.Author.Needs.{needs}
