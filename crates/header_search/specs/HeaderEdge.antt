@@ -13,6 +13,6 @@ pub mod Begins
 unfoldable pub begins : List ℕ → ℕ → Bool
 begins ds k = eqb (edgeBits ds k) 11 && eqb (edgeBits ds (k + 1)) 11
 
--- the first such edge with a third run behind them, or how many edges have three runs behind them
-unfoldable pub headerEdge : List ℕ → ℕ
-headerEdge ds = firstBelow (begins ds) (length ds - 2)
+-- the first such edge from edge `from` on with a third run behind them, or where the edges with three runs behind them end
+unfoldable pub headerEdge : List ℕ → ℕ → ℕ
+headerEdge ds from = from + firstBelow (λ i. begins ds (from + i)) (length ds - 2 - from)

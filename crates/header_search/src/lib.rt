@@ -19,11 +19,14 @@ fn begins_at(capture: &[u8], k: usize) -> bool
     true
 }
 
-// The first edge at which a Sync Header begins, or where the search ends: a third run behind the two shows the header's last ZERO.
-pub fn header_edge(capture: &[u8]) -> usize
-    ensures { λ r. ⌜ r ≡ headerEdge (runs (now (capture .entry))) ⌝ }
+// The first edge from `from` on at which a Sync Header begins, or where the search ends: a third run behind the two shows the header's last ZERO.
+pub fn header_edge(capture: &[u8], from: usize) -> usize
+    ensures { λ r. ⌜ r ≡ headerEdge (runs (now (capture .entry))) from ⌝ }
 {
-    let mut k: usize = 0;
+    if capture.len() / 2 <= from {
+        return from;
+    }
+    let mut k = from;
     while k + 3 < capture.len() / 2 {
         let begins = begins_at(capture, k);
         if begins {

@@ -70,7 +70,7 @@ module _ (sections ds : List ℕ) (n : ℕ) (bytes : Bytes sections) (long : len
   frames-in-all = omega (arith, header-first, bits-in-all)
 
   -- the frames are the Sections
-  pub frames-are : framesOf (channel ds) ≡ sections
+  pub frames-are : framesOf (channel ds) (firstHeader (channel ds)) ≡ sections
   unfolding framesOf packed
   frames-are =
       ap₂ (λ (p m : ℕ). packed (channel ds) p m) header-first frames-in-all
