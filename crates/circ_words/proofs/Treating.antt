@@ -8,13 +8,13 @@ use Prim.Native.Nat.{ℕ, _≤_, _<_}
 use Rattle.codeword.specs.Code.{weight}
 use Rattle.erasures.specs.Agreeing.{handedOn}
 use Rattle.filling.specs.Fill.{filled, isFilled, Fills}
-use Rattle.circ.specs.Codes.{markOf, corrected, lost}
+use Rattle.circ.specs.Codes.{markOf, corrected, wordMark}
 use Rattle.circ_words.specs.Words.{HandsOn}
 use Rattle.circ_words.specs.Words.Found.{found-near, found-filled, found-none}
 
 module _ (most : ℕ) (m w : List ℕ) where
-  pub by-nearest : (out : List ℕ) (mark : ℕ) → weight m ≡ 0 → (mark ≡ lost w) × (out ≡ corrected w) → HandsOn most m w out mark
-  unfolding lost corrected
+  pub by-nearest : (out : List ℕ) (mark : ℕ) → weight m ≡ 0 → (mark ≡ wordMark w) × (out ≡ corrected w) → HandsOn most m w out mark
+  unfolding wordMark corrected
   by-nearest out mark z (p, q) =
       record {
         leaves = q ∙ ap (handedOn w) (sym (found-near most m w z));

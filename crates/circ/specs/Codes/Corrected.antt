@@ -14,11 +14,11 @@ use Rattle.codeword.specs.declared.Verdict.{Verdict}
 use Rattle.codeword.specs.declared.Verdict.the-variants as verdicts
 use Rattle.codeword.specs.Nearest.Finds.{nearest-sound, nearest-none}
 use Rattle.erasures.specs.Agreeing.{handedOn}
-use Rattle.circ.specs.Codes.{markOf, corrected, lost}
+use Rattle.circ.specs.Codes.{markOf, corrected, wordMark}
 
 -- the mark of a word: 1 and no codeword is near it, or 0 and what is handed on is near it
-pub judged : (w : List ℕ) → Bytes w → length w ≤ 255 → ((lost w ≡ 1) × ((c : List ℕ) → Near 4 w c → ⊥)) ⊎ ((lost w ≡ 0) × Near 4 w (corrected w))
-unfolding lost corrected
+pub judged : (w : List ℕ) → Bytes w → length w ≤ 255 → ((wordMark w ≡ 1) × ((c : List ℕ) → Near 4 w c → ⊥)) ⊎ ((wordMark w ≡ 0) × Near 4 w (corrected w))
+unfolding wordMark corrected
 judged w bytes short = go (nearest 4 w) refl
   where
     go : (o : Option (List ℕ)) → nearest 4 w ≡ o → ((markOf o ≡ 1) × ((c : List ℕ) → Near 4 w c → ⊥)) ⊎ ((markOf o ≡ 0) × Near 4 w (handedOn w o))

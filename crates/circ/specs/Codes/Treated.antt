@@ -19,7 +19,7 @@ use Rattle.erasures.specs.Agrees.Unmarked.{agrees-unmarked}
 use Rattle.erasures.specs.Agreeing.{agreeing, handedOn}
 use Rattle.erasures.specs.Agreeing.Exact.{agreeing-sound, agreeing-complete, agreeing-none}
 use Rattle.circ.specs.Codes.Corrected.{length-corrected, bytes-corrected}
-use Rattle.circ.specs.Codes.{markOf, corrected, lost, foundFor, treated, doubted}
+use Rattle.circ.specs.Codes.{markOf, corrected, wordMark, foundFor, treated, doubted}
 
 -- what is handed on, and its mark, where it is known what is found
 pub record Treats (most : ℕ) (m w : List ℕ) (c : List ℕ) (mark : ℕ) : Type 0 where
@@ -44,8 +44,8 @@ module _ (most : ℕ) (m w : List ℕ) where
   unfolding foundFor
   found-unmarked z = rw (eq-eqb (weight m) 0 z)
 
-  pub treats-unmarked : weight m ≡ 0 → Treats most m w (corrected w) (lost w)
-  unfolding corrected lost
+  pub treats-unmarked : weight m ≡ 0 → Treats most m w (corrected w) (wordMark w)
+  unfolding corrected wordMark
   treats-unmarked z = by-found (nearest 4 w) (found-unmarked z)
 
   -- some marks, and not too many: the codeword that agrees
