@@ -13,7 +13,7 @@ use mir.Val.{SFits, ofZ, toZ}
 use Rattle.io.specs.Counts.{clamped}
 use Rattle.libc.specs.Io.{Moved}
 use Rattle.reading.specs.declared.Read.the-variants.{Failed, End, More}
-use Rattle.reading.specs.Reading.{meaningOf}
+use Rattle.reading.specs.Inner.{meaningOf}
 
 pub failed : (got : ℤ) → ltZ got (pos 0) ≡ true → Failed ≡ meaningOf got
 failed (pos k) e = let h : suc k ≤ 0 = ltb-true k 0 e in let b : ⊥ = omega arith in absurd b

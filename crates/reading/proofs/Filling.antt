@@ -10,7 +10,8 @@ use lib.IntN.{ℤ, pos, negsuc}
 use Rattle.libc.specs.Io.{Moved}
 use Rattle.reading.specs.declared.Read.{Read}
 use Rattle.reading.specs.declared.Read.the-variants.{Failed, End, More}
-use Rattle.reading.specs.Reading.{meaningOf, Brought, StoppedAt}
+use Rattle.reading.specs.Inner.{meaningOf, Brought}
+use Rattle.reading.specs.Reading.{StoppedAt}
 use Rattle.reading.proofs.Read as read
 
 -- nothing has stopped the reading so far

@@ -3,7 +3,8 @@
 ghost use mathlib.Core.Path.{_≡_};
 ghost use lib.ListN.{length};
 ghost use Rattle.libc.specs.Io.{Moved};
-ghost use Rattle.reading.specs.Reading.{meaningOf, Brought, Fills};
+ghost use Rattle.reading.specs.Reading.{Fills};
+ghost use Rattle.reading.specs.Inner.{meaningOf, Brought};
 use libc::STDIN_FILENO;
 
 // What one read said: it failed, the input is at its end, or so many bytes more came.

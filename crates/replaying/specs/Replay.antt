@@ -10,7 +10,7 @@ use lib.ListN.{length, getD, take, drop, replicate}
 use Rattle.outcome.specs.First.{firstBelow}
 use Rattle.outcome.specs.Say.{Say, done, refused, oneThenTwo, Outcome, answered}
 use Rattle.bits.specs.Bits.{pack}
-use Rattle.merging.specs.Rule.{header, starts}
+use Rattle.merging.specs.Rule.{syncHeaderBits, starts}
 use Rattle.captures.specs.Counts.{countsOf, runsOf, bitsIn, legal}
 use Rattle.captures.specs.Kept.{rightCapture, filled}
 pub mod Sizes
@@ -29,7 +29,7 @@ channelOf (c ∷ cs) = channel (runsOf (c ∷ cs))
 
 -- the bit at which the first Sync Header begins, or how many bits there are
 unfoldable pub firstHeader : List ℕ → ℕ
-firstHeader bits = firstBelow (λ p. starts header (drop p bits)) (length bits)
+firstHeader bits = firstBelow (λ p. starts syncHeaderBits (drop p bits)) (length bits)
 
 -- how many whole stretches of 588 bits there are from bit p on
 unfoldable pub framesFrom : List ℕ → ℕ → ℕ

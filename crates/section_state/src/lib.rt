@@ -1,6 +1,7 @@
 // The state that a Section writer carries, signed as document 01 says it, and the tally that a Section is written with.
 ghost use mathlib.Core.Path.{_≡_};
-ghost use Rattle.section_state.specs.Carried.{possible, beginning, dsvThen, levelThen};
+ghost use Rattle.section_state.specs.Carried.{possible, levelThen};
+ghost use Rattle.section_state.specs.Tallies.{beginning, dsvThen};
 use traces::Tally;
 
 mod signed;

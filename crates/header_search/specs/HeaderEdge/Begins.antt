@@ -12,7 +12,7 @@ use lib.Dec.{eqb}
 use lib.ListN.{length, getD, take, drop, length-drop}
 use Rattle.outcome.specs.First.{First}
 use Rattle.outcome.specs.First.Found.{first-below}
-use Rattle.merging.specs.Rule.{header, starts}
+use Rattle.merging.specs.Rule.{syncHeaderBits, starts}
 use Rattle.captures.specs.Counts.{bitsIn}
 use Rattle.replaying.specs.Replay.{channel, firstHeader}
 use Rattle.replaying.specs.Replay.Sizes.{Legal, bitsOfRuns, length-channel}
@@ -33,7 +33,7 @@ found ds =
     }
 
 module _ (ds : List ℕ) (l : Legal ds) where
-  begins-stands : (k : ℕ) → k + 2 < length ds → starts header (channel (drop k ds)) ≡ begins ds k
+  begins-stands : (k : ℕ) → k + 2 < length ds → starts syncHeaderBits (channel (drop k ds)) ≡ begins ds k
   unfolding begins
   begins-stands k h = go (eqb (edgeBits ds k) 11) refl (eqb (edgeBits ds (k + 1)) 11) refl
     where
@@ -44,14 +44,14 @@ module _ (ds : List ℕ) (l : Legal ds) where
       second = bits-there ds (k + 1) (omega arith) ∙ ap (λ (i : ℕ). bitsIn (getD ds i 0)) (add-one k)
 
       go : (a : Bool) → eqb (edgeBits ds k) 11 ≡ a → (b : Bool) → eqb (edgeBits ds (k + 1)) 11 ≡ b
-          → starts header (channel (drop k ds)) ≡ (a && b)
+          → starts syncHeaderBits (channel (drop k ds)) ≡ (a && b)
       go false p b q = no-header-first ds l k h (λ e. eqb-false (edgeBits ds k) 11 p (first ∙ e))
       go true p false q =
           no-header-second ds l k h (sym first ∙ eqb-true (edgeBits ds k) 11 p) (λ e. eqb-false (edgeBits ds (k + 1)) 11 q (second ∙ e))
       go true p true q =
           header-at ds l k h (sym first ∙ eqb-true (edgeBits ds k) 11 p) (sym second ∙ eqb-true (edgeBits ds (k + 1)) 11 q)
 
-  none-before : (i : ℕ) → i < headerEdge ds 0 → starts header (channel (drop i ds)) ≡ false
+  none-before : (i : ℕ) → i < headerEdge ds 0 → starts syncHeaderBits (channel (drop i ds)) ≡ false
   none-before i h = begins-stands i (omega (arith, found ds .within)) ∙ go (begins ds i) refl
     where
       go : (t : Bool) → begins ds i ≡ t → t ≡ false

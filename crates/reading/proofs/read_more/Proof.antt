@@ -2,7 +2,7 @@
 -- Assumes nothing.
 use mathlib.Core.Path.{sym, ap, _∙_}
 use borrow.Author.Needs.{needs}
-use Rattle.reading.specs.Reading.{meaningOf}
+use Rattle.reading.specs.Inner.{meaningOf}
 use Rattle.reading.proofs.Answers.{read-back, answered}
 use Rattle.reading.proofs.read_more.Statement.{statement}
 use Rattle.reading.proofs.read_more.Tie as tie

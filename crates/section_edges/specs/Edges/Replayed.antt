@@ -11,7 +11,7 @@ use Rattle.outcome.specs.Bytes.{Bytes}
 use Rattle.outcome.specs.First.Found.{found-first}
 use Rattle.outcome.specs.Say.{Say, done, outcome, answered}
 use Rattle.bits.specs.Bits.{unpack}
-use Rattle.merging.specs.Rule.{header}
+use Rattle.merging.specs.Rule.{syncHeaderBits}
 use Rattle.captures.specs.Counts.{countsOf, Counts, edges, runsOf, bitsIn, legal}
 use Rattle.captures.specs.Counts.Bytes.{counts-bytes}
 use Rattle.captures.specs.Counts.Round.{distances-edges}
@@ -52,7 +52,7 @@ none-illegal ds l =
     (record { within = omega arith; before = λ i h e. never (legal-at ds i l h) e; holds = λ h. absurd (omega arith) }))
 
 module _ (sections ds old : List ℕ) (c n : ℕ) (bytes : Bytes sections) (long : length sections ≡ 7203 * n) (some : 1 ≤ n)
-    (kept : Kept (unpack sections ++ header) n) (t : Ticks ds (gapsOf (unpack sections))) (h : c < 65536) (few : length ds < 32768) (right : length old ≡ 65536) where
+    (kept : Kept (unpack sections ++ syncHeaderBits) n) (t : Ticks ds (gapsOf (unpack sections))) (h : c < 65536) (few : length ds < 32768) (right : length old ≡ 65536) where
   legal-ds : Legal ds
   legal-ds = all-turned sections ds n bytes long some kept t .legal
 
@@ -109,4 +109,4 @@ pub written-replayed : (s : SectionWriter) (ps : List Part) (sections ds old : L
     → replaying (captureOf (c ∷ ds)) old ≡ outcome (done (7203 * length ps ∷ 98 * length ps ∷ [])) (filled 65536 sections)
 written-replayed s ps sections ds old c bytes e long some t h few right =
     sections-replayed sections ds old c (length ps) bytes long some
-    (subst (λ (l : List ℕ). Kept (l ++ header) (length ps)) (sym e) (stream-kept s ps)) t h few right
+    (subst (λ (l : List ℕ). Kept (l ++ syncHeaderBits) (length ps)) (sym e) (stream-kept s ps)) t h few right

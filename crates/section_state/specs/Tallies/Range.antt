@@ -2,14 +2,15 @@
 -- Assumes nothing.
 use mathlib.Core.Path.{_≡_}
 use mathlib.Core.Bool.{true}
-use Prim.Native.Nat.{ℕ, _*_, _≤_, _<_, _^_}
+use Prim.Native.Nat.{ℕ, _*_, _≤_, _<_}
 use native.Mathlib.Omega.{arith}
 use borrow.Author.Tests.{lt-ltb}
 use lib.Dec.{leb, leb→le}
 use lib.IntN.{ℤ, pos, negsuc, natAbs, subℕ}
 use Rattle.outcome.specs.Table.Entries.{and-left, and-right, of-true}
 use Rattle.traces.specs.Traces.{Within}
-use Rattle.section_state.specs.Carried.{mostSections, sectionBits, levelRight, possible, above, below, levelNow, beginning, dsvThen, farthest}
+use Rattle.section_state.specs.Carried.{mostSections, sectionBits, levelRight, possible, above, below, levelNow}
+use Rattle.section_state.specs.Tallies.{farthest, beginning, countLimit, dsvThen}
 
 possible-dsv : (dsv level : ℤ) (sections : ℕ) → possible dsv level sections ≡ true → natAbs dsv ≤ sectionBits * sections
 possible-dsv dsv level sections e =
@@ -43,6 +44,6 @@ begins dsv level sections e =
     }
 
 -- the DSV is the difference of small counts
-pub dsv-small : (plus minus : ℕ) → plus < 2 ^ 60 → minus < 2 ^ 60 → dsvThen plus minus ≡ subℕ plus minus
+pub dsv-small : (plus minus : ℕ) → plus < countLimit → minus < countLimit → dsvThen plus minus ≡ subℕ plus minus
 unfolding dsvThen
-dsv-small plus minus p m = simp (lt-ltb plus (2 ^ 60) p, lt-ltb minus (2 ^ 60) m)
+dsv-small plus minus p m = simp (lt-ltb plus countLimit p, lt-ltb minus countLimit m)
