@@ -13,6 +13,7 @@ use Rattle.rspc.specs.Pass.{eachNear, Passed}
 use Rattle.sector.specs.Layout.{sync}
 use Rattle.trial.specs.Tried.{Tried}
 pub mod Mended
+pub mod One
 
 -- s is what came in, r, after the pass over its P codewords, as it is tried
 pub record Made (r s : List ℕ) : Type 0 where

@@ -5,7 +5,7 @@ ghost use Prim.Native.Nat.{_*_};
 ghost use lib.ListN.{length, replicate};
 ghost use Rattle.address.specs.Address.{inRange};
 ghost use Rattle.counting.specs.Count.{room};
-ghost use Rattle.frame_faults.specs.AllFaults.{refusalOf};
+ghost use Rattle.frame_faults.specs.Inner.Refusals.{refusalOf};
 ghost use Rattle.carrying.specs.Carry.{DataFrames, Carried, Carries, sayOf};
 ghost use Rattle.carrying.specs.Inner.Numbers.{Counted};
 use address::HeaderTime;

@@ -1,31 +1,30 @@
--- Which numbers stay small, by the area: the time that is left, and the bytes where there is room for one more.
+-- Which numbers stay small: how many addresses come before the last of an area, and the bytes of the next address.
 -- Assumes nothing.
-use mathlib.Core.Path.{_≡_, refl, ap, subst}
-use mathlib.Core.Bool.{Bool, true, false, cond, _&&_}
-use Prim.Native.Nat.{ℕ, _-_, _<_}
+use mathlib.Core.Path.{_≡_, refl, ap}
+use mathlib.Core.Bool.{Bool, true, false, cond}
+use Prim.Native.Nat.{_-_, _<_}
 use native.Mathlib.Omega.{arith}
 use Rattle.address.specs.declared.HeaderTime.{HeaderTime}
 use Rattle.address.specs.Address.{inLeadIn, inRange}
-use Rattle.address.specs.Elapsed.{elapsed}
-use Rattle.counting.specs.Count.{endOf, left, room}
-use Rattle.counting.specs.Count.Bytes.{value, and-both, Digits}
-use Rattle.counting.specs.Count.OneMore.{ranged, minute, top, minute-digits, before-end, not-last-minute}
+use Rattle.digits.specs.Digits.{twoDigits}
+use Rattle.address.specs.Order.{minutesBefore, rank}
+use Rattle.counting.specs.Count.{lastOf, hasNext}
+use Rattle.counting.specs.Count.Bytes.{value, Digits}
+use Rattle.counting.specs.Count.OneMore.{ranged, minute, top, minute-digits, not-last-minute, has-next}
 
--- what is left to the end of the area, by whether it is the Lead-in Area
-pub record LeftOf (t : HeaderTime) (end : ℕ) : Type 0 where
-  pub before : elapsed t < end
-  pub is : left t ≡ end - elapsed t
+-- the place of the last address is a number that fits
+pub last-small : (t : HeaderTime) → rank (lastOf t) < 720000
+unfolding rank minutesBefore inLeadIn twoDigits
+last-small t = by (inLeadIn t)
+  where
+    by : (b : Bool) → rank (cond b (record { 0 = 0xF9; 1 = 0x59; 2 = 0x74 }) (record { 0 = 0x99; 1 = 0x59; 2 = 0x74 })) < 720000
+    by true = omega arith
+    by false = omega arith
 
-pub left-of : (t : HeaderTime) → inRange t ≡ true → (b : Bool) → inLeadIn t ≡ b → LeftOf t (cond b 270000 720000)
-unfolding left endOf
-left-of t e b q =
-    let end : cond {A = ℕ} (inLeadIn t) 270000 720000 ≡ cond b 270000 720000 = ap (λ (c : Bool). cond c 270000 720000) q in
-    record { before = subst (λ (n : ℕ). elapsed t < n) end (before-end t e); is = ap (λ (n : ℕ). n - elapsed t) end }
-
--- where there is room for one more, its bytes stay bytes
-module _ (t : HeaderTime) (e : (inRange t && room 2 t) ≡ true) where
-  both : (inRange t ≡ true) × (room 2 t ≡ true)
-  both = and-both (inRange t) (room 2 t) e
+-- where an area goes on, the bytes of the next address stay bytes
+module _ (t : HeaderTime) (e : hasNext t ≡ true) where
+  both : (inRange t ≡ true) × (rank t < rank (lastOf t))
+  both = has-next t e
 
   pub frame-small : t .2 < 249
   frame-small = omega (arith, ranged t (both .0) .frame .tens)

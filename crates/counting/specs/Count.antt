@@ -6,17 +6,17 @@ use Prim.Native.Nat.{ℕ, zero, suc, _+_, _-_, _%_}
 use lib.Dec.{eqb, leb}
 use Rattle.address.specs.declared.HeaderTime.{HeaderTime}
 use Rattle.address.specs.Address.{inLeadIn, inRange}
-use Rattle.address.specs.Elapsed.{elapsed}
+use Rattle.address.specs.Order.{rank, earlier}
 pub mod Bytes
 pub mod OneMore
 
--- the time at which its area ends: 60 minutes of the Lead-in Area come first, then 100 others
-unfoldable pub endOf : HeaderTime → ℕ
-endOf t = cond (inLeadIn t) 270000 720000
+-- the last address of its area: (F9) 59 74 or 99 59 74
+abbrev pub lastOf : HeaderTime → HeaderTime
+lastOf t = cond (inLeadIn t) (record { 0 = 0xF9; 1 = 0x59; 2 = 0x74 }) (record { 0 = 0x99; 1 = 0x59; 2 = 0x74 })
 
--- how many addresses there are from this one on to the last of its area, (F9) 59 74 or 99 59 74
+-- how many addresses there are from this one on to the last of its area, both counted
 unfoldable pub left : HeaderTime → ℕ
-left t = endOf t - elapsed t
+left t = rank (lastOf t) + 1 - rank t
 
 -- so many Sectors in a row do not pass the last
 unfoldable pub room : ℕ → HeaderTime → Bool
@@ -28,7 +28,11 @@ room k t = leb k (left t)
 unfoldable pub nextDigits : ℕ → ℕ
 nextDigits b = cond (eqb (b % 16) 9) (b + 7) (b + 1)
 
--- an address that has another behind it, and that other
+-- an address of an area that goes on behind it
+unfoldable pub hasNext : HeaderTime → Bool
+hasNext t = inRange t && earlier t (lastOf t)
+
+-- the one behind it
 unfoldable pub next : HeaderTime → HeaderTime
 next t =
     cond (eqb (t .2) 0x74)
@@ -39,7 +43,7 @@ next t =
 
 -- the same of any three bytes: the last address, and what is no address, is followed by itself
 unfoldable pub following : HeaderTime → HeaderTime
-following t = cond (inRange t && room 2 t) (next t) t
+following t = cond (hasNext t) (next t) t
 
 -- the address i places behind
 unfoldable pub after : ℕ → HeaderTime → HeaderTime

@@ -3,19 +3,26 @@ ghost use mathlib.Core.Path.{_≡_};
 ghost use mathlib.Core.Bool.{_&&_, true};
 ghost use Prim.Native.Nat.{_<_};
 ghost use Rattle.address.specs.Address.{inRange};
-ghost use Rattle.counting.specs.Count.{left, room, nextDigits, next, following};
+ghost use Rattle.counting.specs.Count.{lastOf, left, room, nextDigits, hasNext, next, following};
 use address::HeaderTime;
 
-// How many addresses there are from this one to the end of its area.
+// The last address of the area that this one lies in.
+fn last_of(time: HeaderTime) -> HeaderTime
+    ensures { λ r. ⌜ r ≡ lastOf time ⌝ }
+{
+    if time.in_lead_in() {
+        return HeaderTime::new(0xF9, 0x59, 0x74);
+    }
+    HeaderTime::new(0x99, 0x59, 0x74)
+}
+
+// How many addresses there are from this one to the last of its area.
 fn left(time: HeaderTime) -> u32
     requires { ⌜ inRange time ≡ true ⌝ }
     ensures { λ r. ⌜ r ≡ left time ⌝ }
 {
-    let gone = time.elapsed();
-    if time.in_lead_in() {
-        return 270000 - gone;
-    }
-    720000 - gone
+    let last = last_of(time);
+    last.rank() + 1 - time.rank()
 }
 
 // Whether so many Sectors in a row from this address on stay within its area.
@@ -39,28 +46,38 @@ fn next_digits(b: u8) -> u8
     b + 1
 }
 
-// The address after one that has another behind it.
+// Whether the area of this address goes on behind it.
+fn has_next(time: HeaderTime) -> bool
+    ensures { λ r. ⌜ r ≡ hasNext time ⌝ }
+{
+    if !time.in_range() {
+        return false;
+    }
+    time.earlier(last_of(time))
+}
+
+// The address behind one whose area goes on.
 fn next(time: HeaderTime) -> HeaderTime
-    requires { ⌜ (inRange time && room 2 time) ≡ true ⌝ }
+    requires { ⌜ hasNext time ≡ true ⌝ }
     ensures { λ r. ⌜ r ≡ next time ⌝ }
 {
     let minute = time.0;
     let second = time.1;
     let frame = time.2;
     if frame != 0x74 {
-        return HeaderTime(minute, second, next_digits(frame));
+        return HeaderTime::new(minute, second, next_digits(frame));
     }
     if second != 0x59 {
-        return HeaderTime(minute, next_digits(second), 0);
+        return HeaderTime::new(minute, next_digits(second), 0);
     }
-    HeaderTime(next_digits(minute), 0, 0)
+    HeaderTime::new(next_digits(minute), 0, 0)
 }
 
 // The next address; behind the last one of its area, and for bytes that are no address, the same again.
 pub fn following(time: HeaderTime) -> HeaderTime
     ensures { λ r. ⌜ r ≡ following time ⌝ }
 {
-    if !fits(time, 2) {
+    if !has_next(time) {
         return time;
     }
     next(time)

@@ -22,7 +22,7 @@ pub fn fate_of(answer: Repaired, handed: &[u8]) -> Fate
         Repaired::HandedOut(changed) => {
             let minute = byte_at(handed, 12);
             let second = byte_at(handed, 13);
-            let time = HeaderTime(minute, second, byte_at(handed, 14));
+            let time = HeaderTime::new(minute, second, byte_at(handed, 14));
             if changed == 0 {
                 return Fate::Clean(time);
             }

@@ -1,37 +1,42 @@
--- `counting::left` meets its contract: the area tells where it ends, and no time in range lies behind that (`Areas`).
+-- `counting::left` meets its contract: no address in range lies behind the last of its area (`before-last`), and how many come before that fits (`Areas`).
 -- Assumes nothing.
-use mathlib.Core.Path.{sym, _∙_}
-use mathlib.Core.Bool.{true, false}
-use Prim.Native.Nat.{_-_}
+use mathlib.Core.Path.{ap, _∙_}
 use native.Mathlib.Omega.{arith}
-use Rattle.counting.proofs.Areas.{left-of}
+use Rattle.address.specs.Order.{rank}
+use Rattle.counting.specs.Count.{left}
+use Rattle.counting.specs.Count.OneMore.{before-last}
+use Rattle.counting.proofs.Areas.{last-small}
 use borrow.Author.Needs.{needs}
 use Rattle.counting.proofs.left.Statement.{statement}
 use Rattle.counting.proofs.left.Tie as tie
 
-elapsed-requires : tie.Need-elapsed-requires
-elapsed-requires c κs = search needs
+last-of-requires : tie.Need-last-of-requires
+last-of-requires c κs = search needs
 
-in-lead-in-requires : tie.Need-in-lead-in-requires
-in-lead-in-requires c κs = search needs
+rank-requires : tie.Need-rank-requires
+rank-requires c κs = search needs
+
+add-result : tie.Need-add-result
+add-result c =
+    let last = c .rank .ensures ∙ ap rank (c .before .last-of .ensures) in
+    omega (arith, last, last-small (c .before .before .args .time))
+
+rank-requires-2 : tie.Need-rank-requires-2
+rank-requires-2 c κs = search needs
 
 sub-result : tie.Need-sub-result
 sub-result c =
-    omega (arith, c .before .before .elapsed .ensures, left-of _ (c .before .before .before .pre) true (sym (c .before .in-lead-in .ensures) ∙ c .if1 .taken) .before)
+    let start = c .before .before .before in
+    let last = c .before .rank .ensures ∙ ap rank (c .before .before .last-of .ensures) in
+    omega (arith, last, c .rank2 .ensures, before-last (start .args .time) (start .pre))
 
 returns : tie.Need-returns
+unfolding left
 returns c =
-    let l = left-of _ (c .before .before .before .pre) true (sym (c .before .in-lead-in .ensures) ∙ c .if1 .taken) in
-    omega (arith, c .before .before .elapsed .ensures, l .is)
-
-sub-result-2 : tie.Need-sub-result-2
-sub-result-2 c =
-    omega (arith, c .before .before .elapsed .ensures, left-of _ (c .before .before .before .pre) false (sym (c .before .in-lead-in .ensures) ∙ c .if1 .left) .before)
-
-returns-2 : tie.Need-returns-2
-returns-2 c =
-    let l = left-of _ (c .before .before .before .pre) false (sym (c .before .in-lead-in .ensures) ∙ c .if1 .left) in
-    omega (arith, c .before .before .elapsed .ensures, l .is)
+    let last = c .before .rank .ensures ∙ ap rank (c .before .before .last-of .ensures) in
+    omega (arith, last, c .rank2 .ensures)
 
 pub left-spec : {M : Type 1} → statement M
-left-spec = tie.close (tie.spec elapsed-requires in-lead-in-requires sub-result returns sub-result-2 returns-2)
+left-spec =
+    tie.close
+    (tie.spec last-of-requires rank-requires add-result rank-requires-2 sub-result returns)

@@ -1,16 +1,16 @@
--- The next address is one more in time, in the same area.
+-- The next address comes right behind, in the same area.
 -- Assumes nothing.
 use mathlib.Core.Path.{_≡_, refl, sym, ap, subst, _∙_}
 use mathlib.Core.Bool.{Bool, true, false, cond, _&&_, _||_}
 use Prim.Native.Nat.{ℕ, zero, suc, _+_, _-_, _*_, _/_, _%_, _<_, _≤_}
 use native.Mathlib.Omega.{arith}
-use borrow.Author.Tests.{eqb-true, eqb-false, leb-true, le-leb, lt-leb}
+use borrow.Author.Tests.{eqb-true, eqb-false, leb-true, le-leb, lt-leb, ltb-true, lt-ltb}
 use lib.Dec.{eqb, leb}
 use Rattle.address.specs.declared.HeaderTime.{HeaderTime}
 use Rattle.digits.specs.Digits.{decimal, twoDigits}
 use Rattle.address.specs.Address.{inProgramArea, inLeadIn, inRange}
-use Rattle.address.specs.Elapsed.{minutes, elapsed}
-use Rattle.counting.specs.Count.{endOf, left, room, nextDigits, next, following, after}
+use Rattle.address.specs.Order.{minutesBefore, rank, earlier}
+use Rattle.counting.specs.Count.{lastOf, left, room, nextDigits, hasNext, next, following, after}
 use Rattle.counting.specs.Count.Bytes.{value, and-both, Digits, digits-of, of-digits, digits-more}
 
 -- what an address in range is made of
@@ -49,36 +49,37 @@ minute-digits t r = by (inLeadIn t) refl
     by true e = digits-of 59 (t .0 - 0xA0) (and-both (leb 0xA0 (t .0)) (twoDigits 59 (t .0 - 0xA0)) e .1)
     by false e = digits-of 99 (t .0) (program (inProgramArea t) (subst (λ (b : Bool). (inProgramArea t || b) ≡ true) e (r .area)))
 
--- its time from the beginning of its area on, and the time at which that begins
+-- how many addresses of its area come before it, and how many of another
 unfoldable placeOf : HeaderTime → ℕ
 placeOf t = value (minute t) * 4500 + (value (t .1) * 75 + value (t .2))
 
 unfoldable from : HeaderTime → ℕ
-from t = cond (inLeadIn t) 0 270000
+from t = cond (inLeadIn t) 0 (60 * 60 * 75)
 
-time-is : (t : HeaderTime) → elapsed t ≡ from t + placeOf t
-unfolding elapsed minutes from placeOf minute value
-time-is t = by (inLeadIn t)
+rank-is : (t : HeaderTime) → rank t ≡ from t + placeOf t
+unfolding rank minutesBefore from placeOf minute value
+rank-is t = by (inLeadIn t)
   where
     by : (b : Bool) → (cond b (decimal (t .0 - 0xA0)) (60 + decimal (t .0)) * 60 + decimal (t .1)) * 75 + decimal (t .2)
-        ≡ cond b 0 270000 + (decimal (cond b (t .0 - 0xA0) (t .0)) * 4500 + (decimal (t .1) * 75 + decimal (t .2)))
+        ≡ cond b 0 (60 * 60 * 75) + (decimal (cond b (t .0 - 0xA0) (t .0)) * 4500 + (decimal (t .1) * 75 + decimal (t .2)))
     by true = omega arith
     by false = omega arith
 
-end-is : (t : HeaderTime) → endOf t ≡ from t + (top t * 4500 + 4500)
-unfolding endOf from top
-end-is t = by (inLeadIn t)
+last-is : (t : HeaderTime) → rank (lastOf t) + 1 ≡ from t + (top t * 4500 + 4500)
+unfolding from top rank minutesBefore inLeadIn twoDigits
+last-is t = by (inLeadIn t)
   where
-    by : (b : Bool) → cond b 270000 720000 ≡ cond b 0 270000 + (cond b 59 99 * 4500 + 4500)
+    by : (b : Bool) → rank (cond b (record { 0 = 0xF9; 1 = 0x59; 2 = 0x74 }) (record { 0 = 0x99; 1 = 0x59; 2 = 0x74 })) + 1
+        ≡ cond b 0 (60 * 60 * 75) + (cond b 59 99 * 4500 + 4500)
     by true = refl
     by false = refl
 
--- the time of an address lies before the end of its area
-pub before-end : (t : HeaderTime) → inRange t ≡ true → elapsed t < endOf t
+-- an address does not lie behind the last of its area
+pub before-last : (t : HeaderTime) → inRange t ≡ true → rank t ≤ rank (lastOf t)
 unfolding placeOf
-before-end t e =
+before-last t e =
     let r : Ranged t = ranged t e in
-    omega (arith, time-is t, end-is t, minute-digits t r .most, r .second .most, r .frame .most)
+    omega (arith, rank-is t, last-is t, minute-digits t r .most, r .second .most, r .frame .most)
 
 -- ---- the three cases
 
@@ -86,11 +87,11 @@ before-end t e =
 pub record Next (t u : HeaderTime) : Type 0 where
   pub in-range : inRange u ≡ true
   pub same-area : inLeadIn u ≡ inLeadIn t
-  pub one-more : elapsed u ≡ elapsed t + 1
+  pub one-more : rank u ≡ rank t + 1
 
 next-as : (t u : HeaderTime) → inRange u ≡ true → inLeadIn u ≡ inLeadIn t → placeOf u ≡ placeOf t + 1 → Next t u
 unfolding from
-next-as t u r a p = record { in-range = r; same-area = a; one-more = omega (arith, time-is t, time-is u, ap (λ (b : Bool). cond {A = ℕ} b 0 270000) a) }
+next-as t u r a p = record { in-range = r; same-area = a; one-more = omega (arith, rank-is t, rank-is u, ap (λ (b : Bool). cond {A = ℕ} b 0 (60 * 60 * 75)) a) }
 
 value-59 : value 0x59 ≡ 59
 unfolding value
@@ -204,20 +205,16 @@ module _ (t : HeaderTime) (r : Ranged t) where
 
 -- ---- the next address
 
-pub room-is : (k : ℕ) (t : HeaderTime) → room k t ≡ true → k ≤ left t
-unfolding room
-room-is k t e = leb-true k (left t) e
-
-module _ (t : HeaderTime) (e : inRange t ≡ true) (h : room 2 t ≡ true) where
+-- where an area goes on, this is not the last address of its last minute
+module _ (t : HeaderTime) (e : inRange t ≡ true) (h : rank t < rank (lastOf t)) where
   r : Ranged t
   r = ranged t e
 
   pub not-last-minute : value (t .1) ≡ 59 → value (t .2) ≡ 74 → value (minute t) < top t
-  unfolding left
   not-last-minute s f =
-      omega (arith, room-is 2 t h, end-is t, time-is t, place-is t r)
+      omega (arith, last-is t, rank-is t, place-is t r)
 
-  -- it is one more in time, in range and in the same area
+  -- the next one comes right behind, in range and in the same area
   pub next-is : Next t (next t)
   unfolding next
   next-is = by (eqb (t .2) 0x74) refl (eqb (t .1) 0x59) refl
@@ -235,32 +232,39 @@ module _ (t : HeaderTime) (e : inRange t ≡ true) (h : room 2 t ≡ true) where
           let f : value (t .2) ≡ 74 = ap value (eqb-true (t .2) 0x74 p) ∙ value-74 in
           minute-on t r s f (not-last-minute s f)
 
+-- what it is for an area to go on
+pub has-next : (t : HeaderTime) → hasNext t ≡ true → (inRange t ≡ true) × (rank t < rank (lastOf t))
+unfolding hasNext
+has-next t e =
+    let p = and-both (inRange t) (earlier t (lastOf t)) e in (p .0, ltb-true (rank t) (rank (lastOf t)) (p .1))
+
 -- ---- the address i places behind
 
-pub following-next : (t : HeaderTime) → inRange t ≡ true → room 2 t ≡ true → following t ≡ next t
-unfolding following
-following-next t e h = simp (e, h)
+pub following-next : (t : HeaderTime) → inRange t ≡ true → rank t < rank (lastOf t) → following t ≡ next t
+unfolding following hasNext
+following-next t e h = simp (e, lt-ltb (rank t) (rank (lastOf t)) h)
 
 -- i Sectors later, in range and in the same area
 pub record Counted (t : HeaderTime) (i : ℕ) (u : HeaderTime) : Type 0 where
   pub in-range : inRange u ≡ true
   pub same-area : inLeadIn u ≡ inLeadIn t
-  pub later : elapsed u ≡ elapsed t + i
+  pub later : rank u ≡ rank t + i
 
 -- where there is room for k Sectors, each of their addresses is so
 pub counted : (k : ℕ) (t : HeaderTime) → inRange t ≡ true → room k t ≡ true → (i : ℕ) → i < k → Counted t i (after i t)
-unfolding after room left endOf
+unfolding after room left
 counted k t e h zero l = record { in-range = e; same-area = refl; later = omega arith }
 counted k t e h (suc i) l =
     let u : HeaderTime = after i t in
     let c : Counted t i u = counted k t e h i (omega arith) in
-    let n : Next u (next u) = next-is u (c .in-range) (room-left u (c .same-area) (c .later)) in
-    subst (λ (v : HeaderTime). Counted t (suc i) v) (sym (following-next u (c .in-range) (room-left u (c .same-area) (c .later))))
+    let m : rank u < rank (lastOf u) = goes-on u (c .same-area) (c .later) in
+    let n : Next u (next u) = next-is u (c .in-range) m in
+    subst (λ (v : HeaderTime). Counted t (suc i) v) (sym (following-next u (c .in-range) m))
     (record { in-range = n .in-range; same-area = n .same-area ∙ c .same-area; later = n .one-more ∙ omega (arith, c .later) })
   where
-    ends : (u : HeaderTime) → inLeadIn u ≡ inLeadIn t → cond {A = ℕ} (inLeadIn u) 270000 720000 ≡ cond (inLeadIn t) 270000 720000
-    ends u a = ap (λ (b : Bool). cond b 270000 720000) a
+    same-last : (u : HeaderTime) → inLeadIn u ≡ inLeadIn t → rank (lastOf u) ≡ rank (lastOf t)
+    same-last u a =
+        ap (λ (b : Bool). rank (cond b (record { 0 = 0xF9; 1 = 0x59; 2 = 0x74 }) (record { 0 = 0x99; 1 = 0x59; 2 = 0x74 }))) a
 
-    room-left : (u : HeaderTime) → inLeadIn u ≡ inLeadIn t → elapsed u ≡ elapsed t + i → room 2 u ≡ true
-    room-left u a p =
-        le-leb 2 (left u) (omega (arith, room-is k t h, ends u a, p))
+    goes-on : (u : HeaderTime) → inLeadIn u ≡ inLeadIn t → rank u ≡ rank t + i → rank u < rank (lastOf u)
+    goes-on u a p = omega (arith, leb-true k (left t) h, same-last u a, p)

@@ -1,21 +1,21 @@
--- An address in range is known by its time, so that of two of them one lies before the other or they are the same.
+-- An address in range is known by how many come before it, so that of two of them one lies before the other or they are the same.
 -- Assumes nothing.
 use mathlib.Core.Path.{_≡_, refl, sym}
 use mathlib.Core.Bool.{Bool, true, false, _&&_, _||_}
 use Prim.Native.Nat.{_+_, _-_, _≤_}
 use native.Mathlib.Omega.{arith}
 use borrow.Author.Tests.{leb-true, ltb-false}
-use lib.Dec.{T, ltb, leb}
+use lib.Dec.{T, leb}
 use Rattle.outcome.specs.Table.Entries.{and-left, and-right, true-of, of-true}
 use Rattle.digits.specs.Digits.{decimal, twoDigits}
 use Rattle.digits.specs.Digits.One.{within, decimal-one}
 use Rattle.address.specs.declared.HeaderTime.{HeaderTime}
 use Rattle.address.specs.Address.{inProgramArea, inLeadIn, inRange}
-use Rattle.address.specs.Elapsed.{minutes, elapsed}
+use Rattle.address.specs.Order.{minutesBefore, rank, earlier}
 
--- a minute of the Lead-in Area, and the minutes that it stands for
-pub lead-in : (t : HeaderTime) → inLeadIn t ≡ true → (0xA0 ≤ t .0) × (twoDigits 59 (t .0 - 0xA0) ≡ true) × (minutes t ≡ decimal (t .0 - 0xA0))
-unfolding inLeadIn minutes
+-- a minute of the Lead-in Area, and the minutes before it
+pub lead-in : (t : HeaderTime) → inLeadIn t ≡ true → (0xA0 ≤ t .0) × (twoDigits 59 (t .0 - 0xA0) ≡ true) × (minutesBefore t ≡ decimal (t .0 - 0xA0))
+unfolding inLeadIn minutesBefore
 lead-in t e =
     let both = of-true (leb 0xA0 (t .0) && twoDigits 59 (t .0 - 0xA0)) e in (
       leb-true 0xA0 (t .0) (true-of (leb 0xA0 (t .0)) (and-left (leb 0xA0 (t .0)) (twoDigits 59 (t .0 - 0xA0)) both)),
@@ -41,8 +41,8 @@ module _ (t : HeaderTime) (h : inRange t ≡ true) where
   minute-right = and-left (inProgramArea t || inLeadIn t) (twoDigits 59 (t .1) && twoDigits 74 (t .2)) parts
 
   -- any other minute
-  behind : inLeadIn t ≡ false → (twoDigits 99 (t .0) ≡ true) × (minutes t ≡ 60 + decimal (t .0))
-  unfolding inProgramArea minutes
+  behind : inLeadIn t ≡ false → (twoDigits 99 (t .0) ≡ true) × (minutesBefore t ≡ 60 + decimal (t .0))
+  unfolding inProgramArea minutesBefore
   behind e = (other (twoDigits 99 (t .0)) (inLeadIn t) e minute-right, rw e)
     where
       other : (a b : Bool) → b ≡ false → T (a || b) → a ≡ true
@@ -50,10 +50,10 @@ module _ (t : HeaderTime) (h : inRange t ≡ true) where
       other false true e t = sym e
       other false false e t = absurd t
 
--- two addresses in range with the same time are the same
-pub elapsed-one : (a b : HeaderTime) → inRange a ≡ true → inRange b ≡ true → elapsed a ≡ elapsed b → a ≡ b
-unfolding elapsed
-elapsed-one a b h k e = go (inLeadIn a) refl (inLeadIn b) refl
+-- two addresses in range with as many before them are the same
+pub rank-one : (a b : HeaderTime) → inRange a ≡ true → inRange b ≡ true → rank a ≡ rank b → a ≡ b
+unfolding rank
+rank-one a b h k e = go (inLeadIn a) refl (inLeadIn b) refl
   where
     seconds : decimal (a .1) ≡ decimal (b .1) → a .1 ≡ b .1
     seconds = decimal-one 59 59 (a .1) (b .1) (second-right a h) (second-right b k)
@@ -98,6 +98,6 @@ elapsed-one a b h k e = go (inLeadIn a) refl (inLeadIn b) refl
         all (decimal-one 99 99 (a .0) (b .0) da db m) (seconds s) (frames f)
 
 -- of two addresses in range one is earlier, or they are the same
-pub neither-earlier : (a b : HeaderTime) → inRange a ≡ true → inRange b ≡ true → ltb (elapsed a) (elapsed b) ≡ false → ltb (elapsed b) (elapsed a) ≡ false → a ≡ b
+pub neither-earlier : (a b : HeaderTime) → inRange a ≡ true → inRange b ≡ true → earlier a b ≡ false → earlier b a ≡ false → a ≡ b
 neither-earlier a b h k p q =
-    elapsed-one a b h k (omega (arith, ltb-false (elapsed a) (elapsed b) p, ltb-false (elapsed b) (elapsed a) q))
+    rank-one a b h k (omega (arith, ltb-false (rank a) (rank b) p, ltb-false (rank b) (rank a) q))

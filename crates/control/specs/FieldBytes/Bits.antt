@@ -1,4 +1,4 @@
--- The Control, q-Mode and q-Data fields as ten bytes: their bits are those of `fieldBits`.
+-- There are ten bytes, and their bits are those of `fieldBits`.
 -- Assumes nothing.
 use mathlib.Core.Path.{_≡_, refl, sym, ap, ap₂, _∙_}
 use mathlib.Core.List.{List, [], _∷_, _++_, append-nil, append-assoc}
@@ -15,21 +15,8 @@ use Rattle.control.specs.declared.Item.the-variants.{Track, FirstTrack, 
 use Rattle.control.specs.declared.QData.{QData}
 use Rattle.control.specs.declared.QData.the-variants.{UserData, LeadOut, LeadIn, CatalogNumber}
 use Rattle.control.specs.declared.Control.{Control}
-use Rattle.control.specs.Channels.{controlField, qMode, nineFields, itemFields, dataBits, fieldBits}
-
--- the 52 bits of a Catalog Number and twelve ZEROs in eight bytes, and A-FRAC
-abbrev pub catalogBytes : ℕ → ℕ → List ℕ
-catalogBytes n frac =
-    n / 2 ^ 44 % 256 ∷ n / 2 ^ 36 % 256 ∷ n / 2 ^ 28 % 256 ∷ n / 2 ^ 20 % 256 ∷ n / 2 ^ 12 % 256 ∷ n / 2 ^ 4 % 256 ∷ n % 16 * 16 ∷ 0 ∷ frac ∷ []
-
-abbrev pub dataBytes : QData → List ℕ
-dataBytes (UserData tno index relative at) = nineFields tno index relative (at .0) (at .1) (at .2)
-dataBytes (LeadOut relative at) = nineFields 0xAA 0x01 relative (at .0) (at .1) (at .2)
-dataBytes (LeadIn item relative) = itemFields item relative
-dataBytes (CatalogNumber n frac) = catalogBytes n frac
-
-unfoldable pub fieldBytes : Control → List ℕ
-fieldBytes f = (controlField (f .copying) * 16 + qMode (f .q_data)) ∷ dataBytes (f .q_data)
+use Rattle.control.specs.Channels.{controlField, qMode, itemFields, dataBits, fieldBits}
+use Rattle.control.specs.FieldBytes.{catalogBytes, dataBytes, fieldBytes}
 
 -- ---- how many
 
