@@ -1,12 +1,12 @@
--- `words::look_up` meets its contract, by its test.
+-- `looking_up::look_up` meets its contract, by its test.
 -- Assumes nothing.
 use mathlib.Core.Path.{_≡_, ap, sym, _∙_}
 use Prim.Native.Nat.{ℕ}
 use lib.ListN.{getD}
 use borrow.Author.Tests.{eq-eqb, ne-eqb}
 use borrow.Author.Needs.{needs}
-use Rattle.words.proofs.look_up.Statement.{statement}
-use Rattle.words.proofs.look_up.Tie as tie
+use Rattle.looking_up.proofs.look_up.Statement.{statement}
+use Rattle.looking_up.proofs.look_up.Tie as tie
 
 cast-slot : tie.Need-cast-slot
 cast-slot c = search needs
