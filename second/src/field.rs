@@ -24,7 +24,7 @@ fn shifted_and_added(a: u8, b: u8) -> u8 {
     sum
 }
 
-/// Products, inverses and as many powers as anyone asks for, each worked out once, since the tests ask for thousands of millions.
+/// Products, inverses and powers, each worked out once by its rule and kept, so that the tests, which ask for them all the time, are quick.
 struct Tables {
     products: Vec<[u8; 256]>,
     inverses: Vec<Option<u8>>,

@@ -1,4 +1,5 @@
-//! This program held against the proved code. All tests are one program, since each that is linked with the proved code takes its time to build.
+//! This program held against the proved code, and its own way down and up (`road`). All tests are one program, since each takes its time to
+//! build.
 
 mod alignment;
 mod captures;
