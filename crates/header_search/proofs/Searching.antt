@@ -6,12 +6,13 @@ use mathlib.Core.Logic.{_⊎_, inl, inr}
 use mathlib.Core.List.{List}
 use Prim.Native.Nat.{ℕ, _+_, _-_, _/_, _<_, _≤_}
 use native.Mathlib.Omega.{arith}
-use borrow.Author.Tests.{eq-eqb, ne-eqb}
+use borrow.Author.Tests.{eq-eqb, ne-eqb, lt-ltb}
 use lib.ListN.{length}
 use Rattle.outcome.specs.First.Found.{lt-or-le, first-below, found-first}
 use Rattle.legal_runs.specs.EdgeBits.{runs, edgeBits}
 use Rattle.legal_runs.specs.EdgeBits.There.{runs-long}
-use Rattle.header_search.specs.HeaderEdge.{begins, headerEdge}
+use Rattle.header_search.specs.HeaderEdge.{begins, stands, headerEdge}
+use Rattle.header_search.specs.HeaderEdge.Stands.{too-few}
 
 module _ (ds : List ℕ) (k b : ℕ) (e : b ≡ edgeBits ds k) where
   pub on-first : (b ≡ 11 → ⊥) → false ≡ begins ds k
@@ -26,6 +27,20 @@ module _ (ds : List ℕ) (k b : ℕ) (e : b ≡ edgeBits ds k) where
     pub on-both : c ≡ 11 → true ≡ begins ds k
     unfolding begins
     on-both h = simp (eq-eqb (edgeBits ds k) 11 (sym e ∙ g), eq-eqb (edgeBits ds (k + 1)) 11 (sym f ∙ h))
+
+-- ---- whether one stands at an edge
+
+pub stands-behind : (w : List ℕ) (k : ℕ) → length w / 2 ≤ k → false ≡ stands (runs w) k
+stands-behind w k h = sym (too-few (runs w) k (omega (arith, runs-long w)))
+
+pub stands-short : (w : List ℕ) (k : ℕ) → length w / 2 ≤ k + 3 → false ≡ stands (runs w) k
+stands-short w k h = sym (too-few (runs w) k (omega (arith, runs-long w)))
+
+pub stands-begins : (w : List ℕ) (k : ℕ) (t : Bool) → k + 3 < length w / 2 → t ≡ begins (runs w) k → t ≡ stands (runs w) k
+unfolding stands
+stands-begins w k t h e = let l : k + 2 < length (runs w) = omega (arith, runs-long w) in e ∙ simp (lt-ltb (k + 2) (length (runs w)) l)
+
+-- ---- the search
 
 -- at the edges from `from` to before k none begins
 pub record Searched (w : List ℕ) (from k : ℕ) : Type 0 where

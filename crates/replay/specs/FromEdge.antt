@@ -2,19 +2,23 @@
 -- Assumes nothing.
 use mathlib.Core.Bool.{cond}
 use mathlib.Core.List.{List}
-use Prim.Native.Nat.{ℕ, _+_}
-use lib.Dec.{ltb}
-use lib.ListN.{length, take}
+use Prim.Native.Nat.{ℕ}
+use lib.ListN.{length, take, drop}
 use Rattle.outcome.specs.Say.{Outcome}
+use Rattle.merging.specs.Rule.{header, starts}
 use Rattle.captures.specs.Counts.{countsOf}
 use Rattle.replaying.specs.Replay.{channelOf, replayingAt}
 use Rattle.replaying.specs.Replay.Sizes.{bitsOfRuns}
 use Rattle.legal_runs.specs.EdgeBits.{runs}
-pub mod AtHeader
+pub mod Header
 
--- the bit at which edge k stands, or how many bits there are where fewer than three runs follow it, which hold no Sync Header
-unfoldable pub edgeBit : List ℕ → ℕ → ℕ
-edgeBit capture k = cond (ltb (k + 2) (length (runs capture))) (bitsOfRuns (take k (runs capture))) (length (channelOf (countsOf capture)))
+-- bit p, where a Sync Header begins there, and else how many bits there are
+abbrev pub headerAt : List ℕ → ℕ → ℕ
+headerAt bits p = cond (starts header (drop p bits)) p (length bits)
+
+-- the bit of edge k, where a Sync Header begins there
+unfoldable pub headerBit : List ℕ → ℕ → ℕ
+headerBit capture k = headerAt (channelOf (countsOf capture)) (bitsOfRuns (take k (runs capture)))
 
 abbrev pub replayingFrom : List ℕ → ℕ → List ℕ → Outcome
-replayingFrom capture k old = replayingAt capture (edgeBit capture k) old
+replayingFrom capture k old = replayingAt capture (headerBit capture k) old

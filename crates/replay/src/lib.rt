@@ -58,7 +58,7 @@ fn put_frames(capture: &[u8], k: usize, end: usize, out: &mut [u8])
     }
 }
 
-// The work: `frames` becomes the Channel Frames of the capture from edge k on.
+// The work: `frames` becomes the Channel Frames of the capture from the Sync Header at edge k on.
 fn replay_from(capture: &[u8], k: usize, frames: &mut [u8]) -> Replayed
     ensures { λ r. ⌜ outcome (sayOf r) (now (frames .exit)) ≡ replayingFrom (now (capture .entry)) k (now (frames .entry)) ⌝ }
 {
@@ -73,10 +73,7 @@ fn replay_from(capture: &[u8], k: usize, frames: &mut [u8]) -> Replayed
     if illegal + 1 < capture.len() / 2 {
         return Replayed::IllegalRun(illegal);
     }
-    if capture.len() / 2 <= k {
-        return Replayed::NoHeader;
-    }
-    if capture.len() / 2 <= k + 3 {
+    if !header_search::stands_at(capture, k) {
         return Replayed::NoHeader;
     }
     let n = frames_from(capture, k);
@@ -106,7 +103,7 @@ pub fn seek<'a>(r: Reader<'a>) -> Reader<'a>
     Reader { src: r.src, at }
 }
 
-// `frames` becomes the Channel Frames from the reader's place on.
+// `frames` becomes the Channel Frames from the Sync Header at the reader's place on.
 pub fn play<'a, 'b>(r: Reader<'a>, frames: &'b mut [u8]) -> Replayed
     ensures { λ a. ⌜ outcome (sayOf a) (now (frames .exit)) ≡ replayingFrom (now (r .entry .src)) (r .entry .at) (now (frames .entry)) ⌝ }
 {

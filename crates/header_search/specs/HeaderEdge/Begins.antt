@@ -32,8 +32,12 @@ found ds =
       holds = λ h. f .holds (omega arith);
     }
 
+-- the edge that is found is followed by two runs of 11 bits
+pub found-begins : (ds : List ℕ) → headerEdge ds 0 + 2 < length ds → begins ds (headerEdge ds 0) ≡ true
+found-begins ds h = found ds .holds (omega arith)
+
 module _ (ds : List ℕ) (l : Legal ds) where
-  begins-stands : (k : ℕ) → k + 2 < length ds → starts syncHeaderBits (channel (drop k ds)) ≡ begins ds k
+  pub begins-stands : (k : ℕ) → k + 2 < length ds → starts syncHeaderBits (channel (drop k ds)) ≡ begins ds k
   unfolding begins
   begins-stands k h = go (eqb (edgeBits ds k) 11) refl (eqb (edgeBits ds (k + 1)) 11) refl
     where
@@ -67,7 +71,7 @@ module _ (ds : List ℕ) (l : Legal ds) where
       omega (
         arith,
         from-there,
-        header-here (channel (drop (headerEdge ds 0) ds)) (begins-stands (headerEdge ds 0) h ∙ found ds .holds (omega arith)),
+        header-here (channel (drop (headerEdge ds 0) ds)) (begins-stands (headerEdge ds 0) h ∙ found-begins ds h),
       )
 
   -- and where the search ends there is none

@@ -44,7 +44,7 @@ use Rattle.legal_runs.specs.EdgeBits.{runs}
 use Rattle.header_search.specs.HeaderEdge.{headerEdge}
 use Rattle.replay.specs.Answers.{sayOf}
 use Rattle.replay.specs.FromEdge.{replayingFrom}
-use Rattle.replay.specs.FromEdge.AtHeader.{from-header}
+use Rattle.replay.specs.FromEdge.Header.{from-header}
 use Rattle.replay.specs.declared.Reader.{Reader}
 use Rattle.replay.specs.declared.Replayed.{Replayed}
 use Rattle.replay.proofs.Reader as T

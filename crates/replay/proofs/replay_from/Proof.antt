@@ -3,7 +3,7 @@
 use mathlib.Core.Path.{sym, _∙_}
 use native.Mathlib.Omega.{arith}
 use Rattle.legal_runs.specs.EdgeBits.AllLegal.{illegal-within}
-use Rattle.replay.proofs.WaysOut.{Right, Clear, Begun, is-clear, is-begun, on-incoming, on-room, on-illegal, on-behind, on-few, edge-there, frames-due, frames-few, on-done}
+use Rattle.replay.proofs.WaysOut.{Right, Clear, Begun, is-clear, is-begun, on-incoming, on-room, on-illegal, on-none, edge-there, frames-due, frames-few, on-done}
 use borrow.Author.Needs.{needs}
 use borrow.Author.Tests.{not-true, not-false}
 use Rattle.replay.proofs.replay_from.Statement.{statement}
@@ -55,28 +55,22 @@ right c =
 clear : (c : tie.Else3) → Clear (c .before .before .before .before .before .before .before .before .before .before .before .args .capture .now) (c .before .before .before .before .before .before .before .before .before .before .before .args .frames .now) (c .before .before .before .before .before .before .before .wipe .last .0)
 clear c = is-clear (right (c .before .before)) (c .before .first-illegal .result) (c .before .first-illegal .ensures) (c .if3 .left)
 
-begun : (c : tie.Else5) → Begun (c .before .before .before .before .before .before .before .before .before .before .before .before .before .args .capture .now) (c .before .before .before .before .before .before .before .before .before .before .before .before .before .args .frames .now) (c .before .before .before .before .before .before .before .before .before .wipe .last .0) (c .before .before .before .before .before .before .before .before .before .before .before .before .before .args .k)
-begun c = is-begun (clear (c .before .before)) _ (c .if5 .left)
+begun : (c : tie.Else4) → Begun (c .before .before .before .before .before .before .before .before .before .before .before .before .before .args .capture .now) (c .before .before .before .before .before .before .before .before .before .before .before .before .before .args .frames .now) (c .before .before .before .before .before .before .before .before .before .wipe .last .0) (c .before .before .before .before .before .before .before .before .before .before .before .before .before .args .k)
+begun c = is-begun (clear (c .before .before)) _ (sym (c .before .stands-at .ensures) ∙ not-false (c .before .stands-at .result) (c .if4 .left))
 
 -- ---- the needs
 
 returns-3 : tie.Need-returns-3
 returns-3 c = on-illegal (right (c .before .before)) _ _ (c .before .first-illegal .ensures) (c .if3 .taken)
 
+stands-at-requires : tie.Need-stands-at-requires
+stands-at-requires c κs = search needs
+
 same-length-4 : tie.Need-same-length-4
 same-length-4 c = search needs
 
 returns-4 : tie.Need-returns-4
-returns-4 c = on-behind (clear (c .before)) _ (c .if4 .taken)
-
-add-if5 : tie.Need-add-if5
-add-if5 c = search needs
-
-same-length-5 : tie.Need-same-length-5
-same-length-5 c = search needs
-
-returns-5 : tie.Need-returns-5
-returns-5 c = on-few (clear (c .before .before)) _ (c .if5 .taken)
+returns-4 c = on-none (clear (c .before .before)) _ (sym (c .before .stands-at .ensures) ∙ not-true (c .before .stands-at .result) (c .if4 .taken))
 
 frames-from-requires : tie.Need-frames-from-requires
 frames-from-requires c κs = edge-there (begun c)
@@ -87,17 +81,17 @@ mul-put-frames c = omega (arith, frames-few (begun (c .before)) _ (c .frames-fro
 put-frames-requires : tie.Need-put-frames-requires
 put-frames-requires c κs = frames-due (begun (c .before .before)) _ (c .before .frames-from .ensures)
 
-mul-t12 : tie.Need-mul-t12
-mul-t12 c = omega (arith, frames-few (begun (c .before .before .before .before .before)) _ (c .before .before .before .before .frames-from .ensures))
+mul-t11 : tie.Need-mul-t11
+mul-t11 c = omega (arith, frames-few (begun (c .before .before .before .before .before)) _ (c .before .before .before .before .frames-from .ensures))
 
 add-t13 : tie.Need-add-t13
 add-t13 c = omega (arith, frames-few (begun (c .before .before .before .before .before)) _ (c .before .before .before .before .frames-from .ensures))
 
-same-length-6 : tie.Need-same-length-6
-same-length-6 c = search needs
+same-length-5 : tie.Need-same-length-5
+same-length-5 c = search needs
 
-returns-6 : tie.Need-returns-6
-returns-6 c =
+returns-5 : tie.Need-returns-5
+returns-5 c =
     on-done (begun (c .before .before .before .before .before)) _ (c .before .before .before .before .frames-from .ensures) _ (λ i. c .slice-known3 .given i .fits) (c .before .before .put-frames .ensures)
 
 pub replay-from-spec : {M : Type 1} → statement M
@@ -114,15 +108,13 @@ replay-from-spec =
     add-if3
     same-length-3
     returns-3
+    stands-at-requires
     same-length-4
     returns-4
-    add-if5
-    same-length-5
-    returns-5
     frames-from-requires
     mul-put-frames
     put-frames-requires
-    mul-t12
+    mul-t11
     add-t13
-    same-length-6
-    returns-6)
+    same-length-5
+    returns-5)

@@ -6,7 +6,7 @@ use mathlib.Core.Logic.{_⊎_, inl, inr}
 use mathlib.Core.List.{List, [], _∷_}
 use Prim.Native.Nat.{ℕ, _+_, _<_, _≤_}
 use native.Mathlib.Omega.{arith}
-use borrow.Author.Tests.{lt-ltb, le-ltb}
+use borrow.Author.Tests.{lt-ltb}
 use lib.Dec.{eqb}
 use lib.ListN.{length, take}
 use Rattle.outcome.specs.First.{firstBelow, firstFrom}
@@ -18,9 +18,10 @@ use Rattle.replaying.specs.Replay.{channel, channelOf, firstHeader, firstIllega
 use Rattle.replaying.specs.Replay.Sizes.{Legal, bitsOfRuns}
 use Rattle.legal_runs.specs.EdgeBits.{runs}
 use Rattle.legal_runs.specs.EdgeBits.AllLegal.{none-illegal}
-use Rattle.header_search.specs.HeaderEdge.{headerEdge}
+use Rattle.header_search.specs.HeaderEdge.{stands, headerEdge}
 use Rattle.header_search.specs.HeaderEdge.Begins.{header-begins, header-missing}
-use Rattle.replay.specs.FromEdge.{edgeBit, replayingFrom}
+use Rattle.header_search.specs.HeaderEdge.Stands.{too-few, found-stands, stands-in}
+use Rattle.replay.specs.FromEdge.{headerBit, replayingFrom}
 
 -- ---- captures without an edge, and with some
 
@@ -34,22 +35,28 @@ unfolding channelOf runsOf
 some-bits [] h = absurd (omega arith)
 some-bits (c ∷ cs) h = refl
 
--- ---- the bit of the edge
+-- ---- the bit of an edge
 
-edge-is : (capture : List ℕ) → Legal (runs capture) → edgeBit capture (headerEdge (runs capture) 0) ≡ firstHeader (channelOf (countsOf capture))
-unfolding edgeBit
+module _ (capture : List ℕ) (l : Legal (runs capture)) (k : ℕ) where
+  pub edge-stands : stands (runs capture) k ≡ true → headerBit capture k ≡ bitsOfRuns (take k (runs capture))
+  unfolding headerBit
+  edge-stands e = simp (stands-in (countsOf capture) l k ∙ e)
+
+  pub edge-empty : stands (runs capture) k ≡ false → headerBit capture k ≡ length (channelOf (countsOf capture))
+  unfolding headerBit
+  edge-empty e = simp (stands-in (countsOf capture) l k ∙ e)
+
+edge-is : (capture : List ℕ) → Legal (runs capture) → headerBit capture (headerEdge (runs capture) 0) ≡ firstHeader (channelOf (countsOf capture))
 edge-is capture l = go (lt-or-le (headerEdge (runs capture) 0 + 2) (length (runs capture)))
   where
     go : (headerEdge (runs capture) 0 + 2 < length (runs capture)) ⊎ (length (runs capture) ≤ headerEdge (runs capture) 0 + 2)
-        → edgeBit capture (headerEdge (runs capture) 0) ≡ firstHeader (channelOf (countsOf capture))
+        → headerBit capture (headerEdge (runs capture) 0) ≡ firstHeader (channelOf (countsOf capture))
     go (inl h) =
-        let here : edgeBit capture (headerEdge (runs capture) 0) ≡ bitsOfRuns (take (headerEdge (runs capture) 0) (runs capture))
-        = simp (lt-ltb (headerEdge (runs capture) 0 + 2) (length (runs capture)) h) in
-        here ∙ sym (header-begins (runs capture) l h) ∙ ap firstHeader (sym (some-bits (countsOf capture) (omega arith)))
+        edge-stands capture l (headerEdge (runs capture) 0) (found-stands (runs capture) h)
+        ∙ sym (header-begins (runs capture) l h) ∙ ap firstHeader (sym (some-bits (countsOf capture) (omega arith)))
     go (inr h) =
-        let nowhere : edgeBit capture (headerEdge (runs capture) 0) ≡ length (channelOf (countsOf capture))
-        = simp (le-ltb (headerEdge (runs capture) 0 + 2) (length (runs capture)) h) in
-        nowhere ∙ sym (none-found (countsOf capture) (header-missing (runs capture) l h))
+        edge-empty capture l (headerEdge (runs capture) 0) (too-few (runs capture) (headerEdge (runs capture) 0) h)
+        ∙ sym (none-found (countsOf capture) (header-missing (runs capture) l h))
 
 -- ---- where a run is not legal, the bit does not matter
 
@@ -59,16 +66,16 @@ refused-alike true false vs x y old = refl
 refused-alike false b vs x y old = refl
 
 module _ (capture old : List ℕ) where
-  -- all that comes before the frames
-  front : Say → ℕ → Outcome
-  front s p =
+  -- what comes of s behind the refusals of lengths, with the frames from bit p on
+  behind : Say → ℕ → Outcome
+  behind s p =
       answered (oneThenTwo (rightCapture capture) (eqb (length old) 65536) s) 65536 (filled 65536 (framesOf (channelOf (countsOf capture)) p)) old
 
   illegal-alike : (p q : ℕ) → firstIllegal (runs capture) < length (runs capture) → replayingAt capture p old ≡ replayingAt capture q old
-  unfolding replayingAt replaySay front
+  unfolding replayingAt replaySay behind
   illegal-alike p q h =
-      ap (λ (s : Say). front s p) (says p) ∙ refused-alike (rightCapture capture) (eqb (length old) 65536) (firstIllegal (runs capture) ∷ []) _ _ old
-      ∙ sym (ap (λ (s : Say). front s q) (says q))
+      ap (λ (s : Say). behind s p) (says p) ∙ refused-alike (rightCapture capture) (eqb (length old) 65536) (firstIllegal (runs capture) ∷ []) _ _ old
+      ∙ sym (ap (λ (s : Say). behind s q) (says q))
     where
       says : (x : ℕ)
           → runsSay (runs capture) (firstIllegal (runs capture)) (headerSay (channelOf (countsOf capture)) x) ≡ refused 20 (firstIllegal (runs capture) ∷ [])
