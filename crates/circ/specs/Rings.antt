@@ -25,7 +25,7 @@ pub record Rings : Type 0 where
 abbrev pub ringsAt : List ℕ → List ℕ → Rings
 ringsAt places line = record { places = places; line = line }
 
--- a demand behind all others: it is looked at where the step would be done
+-- one refusal more, behind those that what is said may have: the test is looked at where a step would be done
 abbrev pub lastly : Say → Bool → ℕ → Say
 lastly (done vs) test n = demand test n (done vs)
 lastly (refused m vs) test n = refused m vs
@@ -45,6 +45,7 @@ writerWaits = beforeC2 ++ (between ++ afterC1)
 abbrev pub writerRings : List ℕ → List ℕ → Rings
 writerRings places store = ringsAt places (unrolledAll writerWaits places store)
 
+-- the step of `writes`, in rings
 abbrev pub writesInPlace : Rings → List ℕ → List ℕ → Step Rings
 writesInPlace s frame out = turned (waits writerWaits) 32 s out (writes (s .line) frame out)
 
@@ -57,7 +58,7 @@ freshWriterRings = ringsAt (zeros (length (waits writerWaits))) freshWriter
 unfoldable pub readerWaits : List ℕ
 readerWaits = readerBeforeC1 ++ (readerBetween ++ readerAfterC2)
 
--- a byte's mark stands in a ring of its own, behind those of the bytes
+-- with the marks: each stands in a ring of its own, behind those of the bytes
 unfoldable pub markedWaits : List ℕ
 markedWaits = twice readerBeforeC1 ++ (twice readerBetween ++ readerAfterC2)
 
@@ -68,13 +69,14 @@ placesBefore = length (waits readerBeforeC1)
 abbrev pub placesBetween : ℕ
 placesBetween = length (waits readerBetween)
 
--- at its byte's place
+-- the places of all rings: a mark's is its byte's
 unfoldable pub shared : List ℕ → List ℕ
 shared places = twice (take placesBefore places) ++ (twice (take placesBetween (drop placesBefore places)) ++ drop (placesBefore + placesBetween) places)
 
 abbrev pub readerRings : List ℕ → List ℕ → Rings
 readerRings places store = ringsAt places (unrolledAll markedWaits (shared places) store)
 
+-- the step of `reads`, in rings
 abbrev pub readsInPlace : Rings → List ℕ → List ℕ → List ℕ → Step Rings
 readsInPlace s frame marks out = turned (waits readerWaits) 24 s out (reads (s .line) frame marks out)
 

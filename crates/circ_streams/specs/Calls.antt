@@ -1,4 +1,5 @@
--- Public calls of the CIRC writer and reader: a list of them from `new()`, with anything coming in and any buffers, refused ones among them.
+-- Public calls of the CIRC writer and reader (document 01, "CIRC (Annex C)"; document 02, §9): a list of them from `new()`, with anything coming in and any buffers,
+-- refused ones among them.
 -- Assumes nothing.
 use mathlib.Core.Bool.{Bool, cond, _&&_}
 use mathlib.Core.List.{List, [], _∷_, map}

@@ -64,7 +64,8 @@ module _ {C : Type 0} (ws : List ℕ) (outgoing : ℕ) (fits : C → Bool) (valu
     says : turning s c .say ≡ shifting (s .line) c .say
     says = lastly-met (shifting (s .line) c .say) (below ws (s .places)) 6 legal
 
-    one-alike : asLines (turning s c) ≡ shifting (s .line) c
+    -- from legal places a step in rings is the step of their line
+    pub one-alike : asLines (turning s c) ≡ shifting (s .line) c
     one-alike =
         ap (λ (say : Say). asLines (stepOf say outgoing (shifting (s .line) c .out) (ringsAt (onward ws (s .places)) (shifting (s .line) c .next)) s (old c))) says
         ∙ by-say (shifting (s .line) c .say) outgoing (new (s .line) c) (onward ws (s .places)) (next (s .line) c) s (old c)
