@@ -5,7 +5,7 @@ use mathlib.Core.List.{List}
 use Prim.Native.Nat.{ℕ}
 use lib.ListN.{length, take, drop}
 use Rattle.outcome.specs.Say.{Outcome}
-use Rattle.merging.specs.Rule.{header, starts}
+use Rattle.merging.specs.Rule.{syncHeaderBits, starts}
 use Rattle.captures.specs.Counts.{countsOf}
 use Rattle.replaying.specs.Replay.{channelOf, replayingAt}
 use Rattle.replaying.specs.Replay.Sizes.{bitsOfRuns}
@@ -14,7 +14,7 @@ pub mod Header
 
 -- bit p, where a Sync Header begins there, and else how many bits there are
 abbrev pub headerAt : List ℕ → ℕ → ℕ
-headerAt bits p = cond (starts header (drop p bits)) p (length bits)
+headerAt bits p = cond (starts syncHeaderBits (drop p bits)) p (length bits)
 
 -- the bit of edge k, where a Sync Header begins there
 unfoldable pub headerBit : List ℕ → ℕ → ℕ

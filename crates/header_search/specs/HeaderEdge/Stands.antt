@@ -9,7 +9,7 @@ use native.Mathlib.Omega.{arith}
 use borrow.Author.Tests.{lt-ltb, le-ltb}
 use lib.ListN.{length, take, drop, length-drop}
 use Rattle.outcome.specs.First.Found.{lt-or-le}
-use Rattle.merging.specs.Rule.{header, starts}
+use Rattle.merging.specs.Rule.{syncHeaderBits, starts}
 use Rattle.merging.specs.Rule.Headers.{starts-short}
 use Rattle.captures.specs.Counts.{runsOf}
 use Rattle.replaying.specs.Replay.{channel, channelOf}
@@ -38,11 +38,11 @@ stands-within ds k e = go (lt-or-le (k + 2) (length ds))
 pub found-stands : (ds : List ℕ) → headerEdge ds 0 + 2 < length ds → stands ds (headerEdge ds 0) ≡ true
 found-stands ds h = enough ds (headerEdge ds 0) h ∙ found-begins ds h
 
-stands-there : (ds : List ℕ) → Legal ds → (k : ℕ) → starts header (drop (bitsOfRuns (take k ds)) (channel ds)) ≡ stands ds k
+stands-there : (ds : List ℕ) → Legal ds → (k : ℕ) → starts syncHeaderBits (drop (bitsOfRuns (take k ds)) (channel ds)) ≡ stands ds k
 stands-there ds l k = go (lt-or-le (k + 2) (length ds))
   where
-    go : (k + 2 < length ds) ⊎ (length ds ≤ k + 2) → starts header (drop (bitsOfRuns (take k ds)) (channel ds)) ≡ stands ds k
-    go (inl h) = ap (starts header) (drop-runs k ds l (omega arith)) ∙ begins-stands ds l k h ∙ sym (enough ds k h)
+    go : (k + 2 < length ds) ⊎ (length ds ≤ k + 2) → starts syncHeaderBits (drop (bitsOfRuns (take k ds)) (channel ds)) ≡ stands ds k
+    go (inl h) = ap (starts syncHeaderBits) (drop-runs k ds l (omega arith)) ∙ begins-stands ds l k h ∙ sym (enough ds k h)
     go (inr h) =
         starts-short (drop (bitsOfRuns (take k ds)) (channel ds))
         (omega (
@@ -56,7 +56,7 @@ stands-there ds l k = go (lt-or-le (k + 2) (length ds))
         ∙ sym (too-few ds k h)
 
 -- of the Channel bits of counts too, where there may be no edge
-pub stands-in : (cs : List ℕ) → Legal (runsOf cs) → (k : ℕ) → starts header (drop (bitsOfRuns (take k (runsOf cs))) (channelOf cs)) ≡ stands (runsOf cs) k
+pub stands-in : (cs : List ℕ) → Legal (runsOf cs) → (k : ℕ) → starts syncHeaderBits (drop (bitsOfRuns (take k (runsOf cs))) (channelOf cs)) ≡ stands (runsOf cs) k
 unfolding channelOf runsOf
 stands-in [] l k =
     starts-short (drop (bitsOfRuns (take k (runsOf []))) []) (omega (arith, length-drop {A = ℕ} (bitsOfRuns (take k (runsOf []))) []))
