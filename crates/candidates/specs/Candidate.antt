@@ -9,7 +9,8 @@ use Rattle.outcome.specs.Bytes.{Bytes}
 use Rattle.codeword.specs.Code.{Near}
 use Rattle.rspc.specs.Words.{pWords, pWord, QCodewords}
 use Rattle.rspc.specs.declared.Parity.the-variants.{P}
-use Rattle.rspc.specs.Pass.{eachNear, Passed}
+use Rattle.rspc.specs.Pass.{Passed}
+use Rattle.rspc.specs.PassInPlace.{eachNear}
 use Rattle.sector.specs.Layout.{sync}
 use Rattle.trial.specs.Tried.{Tried}
 pub mod Mended

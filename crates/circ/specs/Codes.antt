@@ -8,10 +8,10 @@ use Prim.Native.Nat.{ℕ, _%_}
 use lib.Dec.{eqb, leb}
 use lib.ListN.{take, drop}
 use Rattle.codeword.specs.Code.{weight}
-use Rattle.codeword.specs.Nearest.{nearest}
+use Rattle.codeword.specs.Nearest.{nearest, foundOr}
 use Rattle.codeword.specs.Parity.{Parity}
 use Rattle.codeword.specs.Parity.Exists.{four-exist}
-use Rattle.erasures.specs.Agreeing.{agreeing, handedOn}
+use Rattle.erasures.specs.Agreeing.{agreeing}
 use Rattle.circ.specs.Codes.Modulo.{bytes-modulo}
 pub mod Modulo
 pub mod Parities
@@ -48,7 +48,7 @@ markOf none = 1
 
 -- what the code hands on for a word, and the word's mark: 1 where none is near
 unfoldable pub corrected : List ℕ → List ℕ
-corrected w = handedOn w (nearest 4 w)
+corrected w = foundOr w (nearest 4 w)
 
 unfoldable pub wordMark : List ℕ → ℕ
 wordMark w = markOf (nearest 4 w)
@@ -61,7 +61,7 @@ foundFor most m w = cond (eqb (weight m) 0) (nearest 4 w) (cond (leb (weight m) 
 
 -- what is handed on: that codeword, or the word as it came; and the mark of a word that goes on as it came
 unfoldable pub treated : ℕ → List ℕ → List ℕ → List ℕ
-treated most m w = handedOn w (foundFor most m w)
+treated most m w = foundOr w (foundFor most m w)
 
 unfoldable pub doubted : ℕ → List ℕ → List ℕ → ℕ
 doubted most m w = markOf (foundFor most m w)

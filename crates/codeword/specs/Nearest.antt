@@ -1,7 +1,7 @@
 -- The verdict on a word and the codeword near it: the codewords are those of Annex A and Annex C.7, and that the nearest takes a word's place is document 01's
 -- rule (demand 3, "CIRC"). With two sums or more this is the one c with `Near J w c` (Code/NearOne), found wherever there is one (Nearest/Finds).
 -- Assumes nothing.
-use mathlib.Core.Bool.{Bool, cond}
+use mathlib.Core.Bool.{Bool, true, false, cond}
 use mathlib.Core.List.{List}
 use mathlib.Core.Option.{Option, none, some}
 use Prim.Native.Nat.{ℕ, _-_}
@@ -54,3 +54,13 @@ mended w Lost = none
 -- the codeword near w
 unfoldable pub nearest : ℕ → List ℕ → Option (List ℕ)
 nearest J w = mended w (verdict J w)
+
+-- the codeword that was found for w, or w as it came
+abbrev pub foundOr : List ℕ → Option (List ℕ) → List ℕ
+foundOr w none = w
+foundOr w (some c) = c
+
+-- whether one was found
+abbrev pub isFound : Option (List ℕ) → Bool
+isFound none = false
+isFound (some c) = true

@@ -18,8 +18,3 @@ found (no n) = none
 
 pub agreeing : List ℕ → List ℕ → Option (List ℕ)
 agreeing m w = found (decision m w)
-
--- what is handed on of a word: the codeword that was found for it, or the word as it came
-abbrev pub handedOn : List ℕ → Option (List ℕ) → List ℕ
-handedOn w (some c) = c
-handedOn w none = w

@@ -3,7 +3,7 @@
 use mathlib.Core.Bool.{Bool}
 use mathlib.Core.List.{List}
 use Prim.Native.Nat.{ℕ}
-use Rattle.rspc.specs.Pass.{Pass}
+use Rattle.rspc.specs.PassInPlace.{Pass}
 use Rattle.salvaging.specs.Turns.{turn}
 pub mod One
 
