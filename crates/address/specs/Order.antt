@@ -4,18 +4,18 @@
 use mathlib.Core.Bool.{Bool, cond}
 use Prim.Native.Nat.{ℕ, _+_, _-_, _*_}
 use lib.Dec.{ltb}
-use Rattle.digits.specs.Digits.{decimal}
+use Rattle.digits.specs.Digits.{valueOfDigits}
 use Rattle.address.specs.declared.HeaderTime.{HeaderTime}
 use Rattle.address.specs.Address.{inLeadIn}
 pub mod One
 
 -- how many minutes come before that of an address: those of the Lead-in Area, at most 60, and then the others
 unfoldable pub minutesBefore : HeaderTime → ℕ
-minutesBefore t = cond (inLeadIn t) (decimal (t .0 - 0xA0)) (60 + decimal (t .0))
+minutesBefore t = cond (inLeadIn t) (valueOfDigits (t .0 - 0xA0)) (60 + valueOfDigits (t .0))
 
 -- how many addresses come before it; this is no time, for 00 00 00 comes behind the 60 minutes of the Lead-in Area
 unfoldable pub rank : HeaderTime → ℕ
-rank t = (minutesBefore t * 60 + decimal (t .1)) * 75 + decimal (t .2)
+rank t = (minutesBefore t * 60 + valueOfDigits (t .1)) * 75 + valueOfDigits (t .2)
 
 -- a lies before b
 abbrev pub earlier : HeaderTime → HeaderTime → Bool

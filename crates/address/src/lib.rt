@@ -2,7 +2,7 @@
 ghost use mathlib.Core.Path.{_≡_};
 ghost use mathlib.Core.Bool.{_||_};
 ghost use Prim.Native.Nat.{_≤_};
-ghost use Rattle.address.specs.Address.{inProgramArea, inLeadIn, inRange};
+ghost use Rattle.address.specs.Address.{inUserDataOrLeadOut, inLeadIn, inRange};
 ghost use Rattle.address.specs.Order.{minutesBefore, rank, earlier};
 
 // The three address bytes of a Sector's header: minute, second, frame.
@@ -17,8 +17,8 @@ impl HeaderTime {
     }
 
     // Whether the minute is one of the User Data Area or the Lead-out Area.
-    fn in_program_area(self) -> bool
-        ensures { λ r. ⌜ r ≡ inProgramArea self ⌝ }
+    fn in_user_data_or_lead_out(self) -> bool
+        ensures { λ r. ⌜ r ≡ inUserDataOrLeadOut self ⌝ }
     {
         digits::two_digits(self.0, 99)
     }
@@ -36,9 +36,9 @@ impl HeaderTime {
 
     // Whether the minute is one of either.
     fn minute_right(self) -> bool
-        ensures { λ r. ⌜ r ≡ (inProgramArea self || inLeadIn self) ⌝ }
+        ensures { λ r. ⌜ r ≡ (inUserDataOrLeadOut self || inLeadIn self) ⌝ }
     {
-        if self.in_program_area() {
+        if self.in_user_data_or_lead_out() {
             return true;
         }
         self.in_lead_in()

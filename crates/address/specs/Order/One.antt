@@ -7,14 +7,14 @@ use native.Mathlib.Omega.{arith}
 use borrow.Author.Tests.{leb-true, ltb-false}
 use lib.Dec.{T, leb}
 use Rattle.outcome.specs.Table.Entries.{and-left, and-right, true-of, of-true}
-use Rattle.digits.specs.Digits.{decimal, twoDigits}
+use Rattle.digits.specs.Digits.{valueOfDigits, twoDigits}
 use Rattle.digits.specs.Digits.One.{within, decimal-one}
 use Rattle.address.specs.declared.HeaderTime.{HeaderTime}
-use Rattle.address.specs.Address.{inProgramArea, inLeadIn, inRange}
+use Rattle.address.specs.Address.{inUserDataOrLeadOut, inLeadIn, inRange}
 use Rattle.address.specs.Order.{minutesBefore, rank, earlier}
 
 -- a minute of the Lead-in Area, and the minutes before it
-pub lead-in : (t : HeaderTime) → inLeadIn t ≡ true → (0xA0 ≤ t .0) × (twoDigits 59 (t .0 - 0xA0) ≡ true) × (minutesBefore t ≡ decimal (t .0 - 0xA0))
+pub lead-in : (t : HeaderTime) → inLeadIn t ≡ true → (0xA0 ≤ t .0) × (twoDigits 59 (t .0 - 0xA0) ≡ true) × (minutesBefore t ≡ valueOfDigits (t .0 - 0xA0))
 unfolding inLeadIn minutesBefore
 lead-in t e =
     let both = of-true (leb 0xA0 (t .0) && twoDigits 59 (t .0 - 0xA0)) e in (
@@ -24,12 +24,12 @@ lead-in t e =
     )
 
 module _ (t : HeaderTime) (h : inRange t ≡ true) where
-  parts : T ((inProgramArea t || inLeadIn t) && (twoDigits 59 (t .1) && twoDigits 74 (t .2)))
+  parts : T ((inUserDataOrLeadOut t || inLeadIn t) && (twoDigits 59 (t .1) && twoDigits 74 (t .2)))
   unfolding inRange
-  parts = of-true ((inProgramArea t || inLeadIn t) && (twoDigits 59 (t .1) && twoDigits 74 (t .2))) h
+  parts = of-true ((inUserDataOrLeadOut t || inLeadIn t) && (twoDigits 59 (t .1) && twoDigits 74 (t .2))) h
 
   rest : T (twoDigits 59 (t .1) && twoDigits 74 (t .2))
-  rest = and-right (inProgramArea t || inLeadIn t) (twoDigits 59 (t .1) && twoDigits 74 (t .2)) parts
+  rest = and-right (inUserDataOrLeadOut t || inLeadIn t) (twoDigits 59 (t .1) && twoDigits 74 (t .2)) parts
 
   second-right : twoDigits 59 (t .1) ≡ true
   second-right = true-of (twoDigits 59 (t .1)) (and-left (twoDigits 59 (t .1)) (twoDigits 74 (t .2)) rest)
@@ -37,12 +37,12 @@ module _ (t : HeaderTime) (h : inRange t ≡ true) where
   frame-right : twoDigits 74 (t .2) ≡ true
   frame-right = true-of (twoDigits 74 (t .2)) (and-right (twoDigits 59 (t .1)) (twoDigits 74 (t .2)) rest)
 
-  minute-right : T (inProgramArea t || inLeadIn t)
-  minute-right = and-left (inProgramArea t || inLeadIn t) (twoDigits 59 (t .1) && twoDigits 74 (t .2)) parts
+  minute-right : T (inUserDataOrLeadOut t || inLeadIn t)
+  minute-right = and-left (inUserDataOrLeadOut t || inLeadIn t) (twoDigits 59 (t .1) && twoDigits 74 (t .2)) parts
 
   -- any other minute
-  behind : inLeadIn t ≡ false → (twoDigits 99 (t .0) ≡ true) × (minutesBefore t ≡ 60 + decimal (t .0))
-  unfolding inProgramArea minutesBefore
+  behind : inLeadIn t ≡ false → (twoDigits 99 (t .0) ≡ true) × (minutesBefore t ≡ 60 + valueOfDigits (t .0))
+  unfolding inUserDataOrLeadOut minutesBefore
   behind e = (other (twoDigits 99 (t .0)) (inLeadIn t) e minute-right, rw e)
     where
       other : (a b : Bool) → b ≡ false → T (a || b) → a ≡ true
@@ -55,14 +55,14 @@ pub rank-one : (a b : HeaderTime) → inRange a ≡ true → inRange b ≡ true 
 unfolding rank
 rank-one a b h k e = go (inLeadIn a) refl (inLeadIn b) refl
   where
-    seconds : decimal (a .1) ≡ decimal (b .1) → a .1 ≡ b .1
+    seconds : valueOfDigits (a .1) ≡ valueOfDigits (b .1) → a .1 ≡ b .1
     seconds = decimal-one 59 59 (a .1) (b .1) (second-right a h) (second-right b k)
 
-    frames : decimal (a .2) ≡ decimal (b .2) → a .2 ≡ b .2
+    frames : valueOfDigits (a .2) ≡ valueOfDigits (b .2) → a .2 ≡ b .2
     frames = decimal-one 74 74 (a .2) (b .2) (frame-right a h) (frame-right b k)
 
     -- seconds and frames are below their bounds
-    small : (decimal (a .1) ≤ 59) × (decimal (b .1) ≤ 59) × (decimal (a .2) ≤ 74) × (decimal (b .2) ≤ 74)
+    small : (valueOfDigits (a .1) ≤ 59) × (valueOfDigits (b .1) ≤ 59) × (valueOfDigits (a .2) ≤ 74) × (valueOfDigits (b .2) ≤ 74)
     small = (within 59 (a .1) (second-right a h), within 59 (b .1) (second-right b k), within 74 (a .2) (frame-right a h), within 74 (b .2) (frame-right b k))
 
     all : a .0 ≡ b .0 → a .1 ≡ b .1 → a .2 ≡ b .2 → a ≡ b
@@ -73,9 +73,9 @@ rank-one a b h k e = go (inLeadIn a) refl (inLeadIn b) refl
         let bounds = small in
         let (la, da, ma) = lead-in a p in
         let (lb, db, mb) = lead-in b q in
-        let m : decimal (a .0 - 0xA0) ≡ decimal (b .0 - 0xA0) = omega arith in
-        let s : decimal (a .1) ≡ decimal (b .1) = omega arith in
-        let f : decimal (a .2) ≡ decimal (b .2) = omega arith in
+        let m : valueOfDigits (a .0 - 0xA0) ≡ valueOfDigits (b .0 - 0xA0) = omega arith in
+        let s : valueOfDigits (a .1) ≡ valueOfDigits (b .1) = omega arith in
+        let f : valueOfDigits (a .2) ≡ valueOfDigits (b .2) = omega arith in
         let n : a .0 - 0xA0 ≡ b .0 - 0xA0 = decimal-one 59 59 (a .0 - 0xA0) (b .0 - 0xA0) da db m in
         all (omega arith) (seconds s) (frames f)
     go true p false q =
@@ -92,9 +92,9 @@ rank-one a b h k e = go (inLeadIn a) refl (inLeadIn b) refl
         let bounds = small in
         let (da, ma) = behind a h p in
         let (db, mb) = behind b k q in
-        let m : decimal (a .0) ≡ decimal (b .0) = omega arith in
-        let s : decimal (a .1) ≡ decimal (b .1) = omega arith in
-        let f : decimal (a .2) ≡ decimal (b .2) = omega arith in
+        let m : valueOfDigits (a .0) ≡ valueOfDigits (b .0) = omega arith in
+        let s : valueOfDigits (a .1) ≡ valueOfDigits (b .1) = omega arith in
+        let f : valueOfDigits (a .2) ≡ valueOfDigits (b .2) = omega arith in
         all (decimal-one 99 99 (a .0) (b .0) da db m) (seconds s) (frames f)
 
 -- of two addresses in range one is earlier, or they are the same

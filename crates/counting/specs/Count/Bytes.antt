@@ -6,13 +6,13 @@ use Prim.Native.Nat.{ℕ, _+_, _-_, _/_, _%_, _<_, _≤_}
 use native.Mathlib.Omega.{arith}
 use borrow.Author.Tests.{eqb-true, eqb-false, lt-ltb, le-leb}
 use lib.Dec.{eqb}
-use Rattle.digits.specs.Digits.{decimal, twoDigits}
+use Rattle.digits.specs.Digits.{valueOfDigits, twoDigits}
 use Rattle.digits.specs.Digits.One.{tens-lt, ones-lt, within}
 use Rattle.counting.specs.Count.{nextDigits}
 
 -- the number of two decimal digits, closed, so that arithmetic takes it for one number
 unfoldable pub value : ℕ → ℕ
-value b = decimal b
+value b = valueOfDigits b
 
 pub and-both : (a b : Bool) → (a && b) ≡ true → (a ≡ true) × (b ≡ true)
 and-both true b e = (refl, e)
@@ -30,7 +30,7 @@ digits-of top b e = record { tens = tens-lt top b e; ones = ones-lt top b e; mos
 
 pub of-digits : (top b : ℕ) → Digits top b → twoDigits top b ≡ true
 unfolding twoDigits value
-of-digits top b d = simp (lt-ltb (b / 16) 10 (d .tens), lt-ltb (b % 16) 10 (d .ones), le-leb (decimal b) top (d .most))
+of-digits top b d = simp (lt-ltb (b / 16) 10 (d .tens), lt-ltb (b % 16) 10 (d .ones), le-leb (valueOfDigits b) top (d .most))
 
 -- one more is two digits again, and makes one more
 pub record More (top b : ℕ) : Type 0 where

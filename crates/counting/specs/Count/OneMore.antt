@@ -7,22 +7,22 @@ use native.Mathlib.Omega.{arith}
 use borrow.Author.Tests.{eqb-true, eqb-false, leb-true, le-leb, lt-leb, ltb-true, lt-ltb}
 use lib.Dec.{eqb, leb}
 use Rattle.address.specs.declared.HeaderTime.{HeaderTime}
-use Rattle.digits.specs.Digits.{decimal, twoDigits}
-use Rattle.address.specs.Address.{inProgramArea, inLeadIn, inRange}
+use Rattle.digits.specs.Digits.{valueOfDigits, twoDigits}
+use Rattle.address.specs.Address.{inUserDataOrLeadOut, inLeadIn, inRange}
 use Rattle.address.specs.Order.{minutesBefore, rank, earlier}
 use Rattle.counting.specs.Count.{lastOf, left, room, nextDigits, hasNext, next, following, after}
 use Rattle.counting.specs.Count.Bytes.{value, and-both, Digits, digits-of, of-digits, digits-more}
 
 -- what an address in range is made of
 pub record Ranged (t : HeaderTime) : Type 0 where
-  pub area : (inProgramArea t || inLeadIn t) ≡ true
+  pub area : (inUserDataOrLeadOut t || inLeadIn t) ≡ true
   pub second : Digits 59 (t .1)
   pub frame : Digits 74 (t .2)
 
 pub ranged : (t : HeaderTime) → inRange t ≡ true → Ranged t
 unfolding inRange
 ranged t e =
-    let p = and-both (inProgramArea t || inLeadIn t) (twoDigits 59 (t .1) && twoDigits 74 (t .2)) e in
+    let p = and-both (inUserDataOrLeadOut t || inLeadIn t) (twoDigits 59 (t .1) && twoDigits 74 (t .2)) e in
     let q = and-both (twoDigits 59 (t .1)) (twoDigits 74 (t .2)) (p .1) in
     record { area = p .0; second = digits-of 59 (t .1) (q .0); frame = digits-of 74 (t .2) (q .1) }
 
@@ -38,7 +38,7 @@ unfoldable pub top : HeaderTime → ℕ
 top t = cond (inLeadIn t) 59 99
 
 pub minute-digits : (t : HeaderTime) → Ranged t → Digits (top t) (minute t)
-unfolding minute top inLeadIn inProgramArea
+unfolding minute top inLeadIn inUserDataOrLeadOut
 minute-digits t r = by (inLeadIn t) refl
   where
     program : (b : Bool) → (b || false) ≡ true → b ≡ true
@@ -47,7 +47,7 @@ minute-digits t r = by (inLeadIn t) refl
 
     by : (b : Bool) → inLeadIn t ≡ b → Digits (cond b 59 99) (cond b (t .0 - 0xA0) (t .0))
     by true e = digits-of 59 (t .0 - 0xA0) (and-both (leb 0xA0 (t .0)) (twoDigits 59 (t .0 - 0xA0)) e .1)
-    by false e = digits-of 99 (t .0) (program (inProgramArea t) (subst (λ (b : Bool). (inProgramArea t || b) ≡ true) e (r .area)))
+    by false e = digits-of 99 (t .0) (program (inUserDataOrLeadOut t) (subst (λ (b : Bool). (inUserDataOrLeadOut t || b) ≡ true) e (r .area)))
 
 -- how many addresses of its area come before it, and how many of another
 unfoldable placeOf : HeaderTime → ℕ
@@ -60,8 +60,8 @@ rank-is : (t : HeaderTime) → rank t ≡ from t + placeOf t
 unfolding rank minutesBefore from placeOf minute value
 rank-is t = by (inLeadIn t)
   where
-    by : (b : Bool) → (cond b (decimal (t .0 - 0xA0)) (60 + decimal (t .0)) * 60 + decimal (t .1)) * 75 + decimal (t .2)
-        ≡ cond b 0 (60 * 60 * 75) + (decimal (cond b (t .0 - 0xA0) (t .0)) * 4500 + (decimal (t .1) * 75 + decimal (t .2)))
+    by : (b : Bool) → (cond b (valueOfDigits (t .0 - 0xA0)) (60 + valueOfDigits (t .0)) * 60 + valueOfDigits (t .1)) * 75 + valueOfDigits (t .2)
+        ≡ cond b 0 (60 * 60 * 75) + (valueOfDigits (cond b (t .0 - 0xA0) (t .0)) * 4500 + (valueOfDigits (t .1) * 75 + valueOfDigits (t .2)))
     by true = omega arith
     by false = omega arith
 
@@ -140,7 +140,7 @@ module _ (t : HeaderTime) (r : Ranged t) where
     with = record { 0 = t .0; 1 = s; 2 = f }
 
     kept : Digits 59 s → Digits 74 f → value s * 75 + value f ≡ value (t .1) * 75 + value (t .2) + 1 → Next t with
-    unfolding placeOf minute inLeadIn inProgramArea
+    unfolding placeOf minute inLeadIn inUserDataOrLeadOut
     kept ds df e = next-as t with (in-range with (record { area = r .area; second = ds; frame = df })) refl (omega (arith, e))
 
   -- one minute more
@@ -177,12 +177,12 @@ module _ (t : HeaderTime) (r : Ranged t) where
         next-as
         t
         later
-        (in-range later (record { area = or-right (inProgramArea later) lead; second = none-59; frame = none-74 }))
+        (in-range later (record { area = or-right (inUserDataOrLeadOut later) lead; second = none-59; frame = none-74 }))
         (lead ∙ sym e)
         (place-later (nextDigits (m - 0xA0)) (ap (λ (b : Bool). cond b (nextDigits m - 0xA0) (nextDigits m)) lead ∙ c .0) ∙ omega (arith, w .more, p))
 
     program-on : inLeadIn t ≡ false → Digits 99 (t .0) → value (t .0) < 99 → placeOf t ≡ value (t .0) * 4500 + (value (t .1) * 75 + value (t .2)) → Next t later
-    unfolding inLeadIn inProgramArea
+    unfolding inLeadIn inUserDataOrLeadOut
     program-on e d h p =
         let m : ℕ = t .0 in
         let w = digits-more 99 m (omega arith) d h in
