@@ -11,7 +11,7 @@ use lib.ListN.{length, replicate}
 use Rattle.outcome.specs.Say.{Say, done, refused, demand}
 use Rattle.address.specs.declared.HeaderTime.{HeaderTime}
 use Rattle.address.specs.Address.{inRange}
-use Rattle.counting.specs.Count.{room}
+use Rattle.address_counting.specs.Count.{room}
 use Rattle.told.specs.Told.{numberOf}
 use Rattle.frame_faults.specs.AllFaults.{allFaults}
 use Rattle.frame_faults.specs.Inner.Refusals.{refusalOf}

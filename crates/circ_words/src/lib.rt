@@ -24,7 +24,7 @@ fn mend(word: &mut [u8]) -> u8
 pub fn treat(marks: &[u8], word: &mut [u8], most: usize) -> u8
     ensures { λ r. ⌜ HandsOn most (now (marks .entry)) (now (word .entry)) (now (word .exit)) r ⌝ }
 {
-    let n = marks::count_marked(marks);
+    let n = mark_counts::count_marked(marks);
     if n == 0 {
         return mend(word);
     }

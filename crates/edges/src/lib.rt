@@ -19,7 +19,7 @@ pub fn run_at(capture: &[u8], at: usize) -> Step
     if edges <= at + 1 {
         return Step::End;
     }
-    let last = counts::count_at(capture, at);
-    let count = counts::count_at(capture, at + 1);
-    Step::Run(counts::ticks(last, count))
+    let last = edge_counts::count_at(capture, at);
+    let count = edge_counts::count_at(capture, at + 1);
+    Step::Run(edge_counts::ticks(last, count))
 }

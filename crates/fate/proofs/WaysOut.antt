@@ -10,7 +10,7 @@ use Rattle.sector.specs.Layout.{timeOf}
 use Rattle.repair.specs.Repair.{sayOf}
 use Rattle.repair.specs.declared.Repaired.{Repaired}
 use Rattle.repair.specs.declared.Repaired.the-variants.{HandedOut}
-use Rattle.tally.specs.declared.Fate.the-variants as fates
+use Rattle.fate_counts.specs.declared.Fate.the-variants as fates
 use Rattle.fate.specs.Fated.{fateFrom}
 
 module _ (s : List ℕ) (a : Repaired) (x y z : ℕ) (p : x ≡ getD s 12 0) (q : y ≡ getD s 13 0) (r : z ≡ getD s 14 0)

@@ -4,8 +4,8 @@ ghost use lib.ListN.{getD};
 ghost use Rattle.repair.specs.Repair.{sayOf};
 ghost use Rattle.fate.specs.Fated.{fateFrom};
 use address::HeaderTime;
+use fate_counts::Fate;
 use repair::Repaired;
-use tally::Fate;
 
 // The byte at a place, and 0 behind the end.
 fn byte_at(s: &[u8], i: usize) -> u8

@@ -7,7 +7,7 @@ ghost use Rattle.erasures.specs.Errors.{filling};
 ghost use Rattle.filling.specs.Fill.{Fills};
 use generator::is_codeword;
 use lost_errors::add_errors;
-use marks::count_marked;
+use mark_counts::count_marked;
 use word_sums::four_sums;
 
 // The longest word with which only one codeword can agree: below α^255 no two powers of α are equal.

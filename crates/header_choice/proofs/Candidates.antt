@@ -21,11 +21,11 @@ use Rattle.traces.specs.declared.Trace.{Trace}
 use Rattle.header_choice.specs.Inner.{HeaderStands}
 use Rattle.traces.specs.Better.{betterOf}
 use Rattle.header_choice.specs.HeaderChoice.{beforeNextHeader, chosenTail}
-use Rattle.states.specs.States.{headerAfterOne, headerAfterZeros}
+use Rattle.automaton_states.specs.States.{headerAfterOne, headerAfterZeros}
 use Rattle.traces.specs.Strokes.{spent}
 use Rattle.traces.specs.Traces.{tallyAfter, tallyDsv, Light, Fit}
 use Rattle.traces.specs.Better.Stands.{better-stands}
-use Rattle.states.specs.States.Right.{header-one, header-zeros}
+use Rattle.automaton_states.specs.States.Right.{header-one, header-zeros}
 use Rattle.traces.specs.Strokes.Right.{spent-is}
 
 -- the two candidates

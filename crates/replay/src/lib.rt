@@ -63,7 +63,7 @@ fn replay_from(capture: &[u8], k: usize, frames: &mut [u8]) -> Replayed
     ensures { λ r. ⌜ outcome (sayOf r) (now (frames .exit)) ≡ replayingFrom (now (capture .entry)) k (now (frames .entry)) ⌝ }
 {
     outcome::wipe(frames, 65536);
-    if !counts::is_capture(capture) {
+    if !edge_counts::is_capture(capture) {
         return Replayed::WrongIncoming;
     }
     if frames.len() != 65536 {

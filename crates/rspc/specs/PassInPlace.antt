@@ -3,6 +3,7 @@
 use mathlib.Core.Path.{_≡_}
 use mathlib.Core.Bool.{Bool}
 use mathlib.Core.List.{List}
+use Prim.Native.Nat.{ℕ}
 use Rattle.outcome.specs.Table.{allBelow}
 use Rattle.codeword.specs.Nearest.{nearest, isFound}
 use Rattle.rspc.specs.declared.Parity.{Parity}

@@ -6,7 +6,7 @@ use Prim.Native.Nat.{ℕ, _<_}
 use lib.ListN.{length}
 use Rattle.outcome.specs.Say.{Say, done}
 use Rattle.address.specs.declared.HeaderTime.{HeaderTime}
-use Rattle.counting.specs.Count.{after}
+use Rattle.address_counting.specs.Count.{after}
 use Rattle.data_frame.specs.DataFrame.{mainData}
 use Rattle.sector.specs.Correct.{CorrectMode01}
 use Rattle.modes.specs.Modes.{isWritten}
