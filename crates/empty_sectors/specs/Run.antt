@@ -1,4 +1,4 @@
--- The run of the program: what each turn reads and prints, and where it ends.
+-- The run of the program that lists empty Sectors (document 02, §13): what each turn reads and prints, and where it ends.
 -- Assumes nothing.
 use mathlib.Core.Path.{_≡_}
 use mathlib.Core.Bool.{Bool, cond}

@@ -1,4 +1,4 @@
--- The run of a report: its steps, what each of them prints, and where it ends.
+-- The run of a report (document 01, "The report"): its steps, what each of them prints, and where it ends.
 -- Assumes nothing.
 use mathlib.Core.Path.{_≡_}
 use mathlib.Core.List.{List, [], _++_}
