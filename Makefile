@@ -24,7 +24,7 @@ bench:
 	rt staticlib exports
 	rt staticlib road_exports
 	rt check report
-	cd second && cargo run --offline --release --quiet --bin bench
+	cd second && cargo run --offline --release --quiet --bin bench -- $(if $(STRICT),--strict)
 
 times:
 	@tools/times

@@ -7,7 +7,7 @@ pub mod words;
 
 use crate::refusal::{clear, Refusal, Refusal::*};
 use merging::{after, chosen};
-use words::{words, Word, SYNC_0, SYNC_1, SYNC_HEADER};
+use words::{byte_of, words, SYNC_0, SYNC_1, SYNC_HEADER};
 
 pub const FRAMES: usize = 98;
 /// A Section's F2-frames, its Control bytes, its Channel bits, its packed bytes, and its bytes as they are read.
@@ -102,9 +102,9 @@ impl Default for SectionWriter {
 }
 
 /// Byte and mark of a word; `control` says whether it stands in a Control place.
-fn read_word(words: &[Word], word: &[u8], control: bool) -> (u8, u8) {
-    if let Some(byte) = words.iter().position(|known| known == word) {
-        (byte as u8, 0)
+fn read_word(word: &[u8], control: bool) -> (u8, u8) {
+    if let Some(byte) = byte_of(word) {
+        (byte, 0)
     } else if control && word == SYNC_0 {
         (0, 2)
     } else if control && word == SYNC_1 {
@@ -115,12 +115,12 @@ fn read_word(words: &[Word], word: &[u8], control: bool) -> (u8, u8) {
 }
 
 /// Bytes and marks of a frame, the Control byte first; without a Sync Header 33 zero bytes with mark 4 (document 02, 6).
-fn read_frame(words: &[Word], frame: &[u8]) -> [(u8, u8); 33] {
+fn read_frame(frame: &[u8]) -> [(u8, u8); 33] {
     let mut read = [(0, 4); 33];
     if let Some(rest) = frame.strip_prefix(&SYNC_HEADER) {
         for (place, read) in read.iter_mut().enumerate() {
             let word = &rest[17 * place + 3..17 * place + 17];
-            *read = read_word(words, word, place == 0);
+            *read = read_word(word, place == 0);
         }
     }
     read
@@ -136,9 +136,8 @@ pub fn read_section(channel: &[u8], bytes: &mut [u8], marks: &mut [u8]) -> Resul
     if bytes.len() != READ_BYTES || marks.len() != READ_BYTES {
         return Err(WrongOutgoing);
     }
-    let words = words();
     let bits = unpack(channel);
-    let read = bits.chunks(588).flat_map(|frame| read_frame(&words, frame));
+    let read = bits.chunks(588).flat_map(read_frame);
     for (at, (byte, mark)) in read.enumerate() {
         (bytes[at], marks[at]) = (byte, mark);
     }

@@ -31,7 +31,8 @@ pub enum Verdict {
     Lost,
 }
 
-/// Tries the word itself and then each change of each place. A change adds itself times the place's weight to each sum.
+/// Tries the word itself and then a change of each place. A change adds itself times the place's weight to each sum; in sum 0 that
+/// weight is 1, so the change can be no other than this sum.
 pub fn verdict(word: &[u8], sums: usize) -> Verdict {
     if word.len() > 255 {
         return Verdict::Lost;
@@ -40,15 +41,13 @@ pub fn verdict(word: &[u8], sums: usize) -> Verdict {
     if found.iter().all(|&s| s == 0) {
         return Verdict::Clean;
     }
-    for place in 0..word.len() {
-        let weights: Vec<u8> = (0..sums).map(|j| weight(j, place, word.len())).collect();
-        for change in 1..=255 {
-            if (0..sums).all(|j| found[j] ^ product(change, weights[j]) == 0) {
-                return Verdict::Change { place, value: word[place] ^ change };
-            }
-        }
+    let change = found[0];
+    let added = |j: usize, place: usize| product(change, weight(j, place, word.len()));
+    let fits = |place: &usize| (0..sums).all(|j| added(j, *place) == found[j]);
+    match (0..word.len()).find(fits) {
+        Some(place) => Verdict::Change { place, value: word[place] ^ change },
+        None => Verdict::Lost,
     }
-    Verdict::Lost
 }
 
 /// The codeword that differs from the word in at most one byte.

@@ -130,8 +130,7 @@ pub fn carry(frames: &[u8], start: [u8; 3], out: &mut [u8]) -> Result<(), Refusa
     if addresses.len() < count {
         return Err(PastTheEnd);
     }
-    for (n, (frame, part)) in
-        frames.chunks(LENGTH).zip(out.chunks_mut(sector::LENGTH)).enumerate()
+    for (n, (frame, part)) in frames.chunks(LENGTH).zip(out.chunks_mut(sector::LENGTH)).enumerate()
     {
         sector::write(1, addresses[n], &frame[12..2060], part).expect("all is right by now");
     }

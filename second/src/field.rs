@@ -1,5 +1,7 @@
 //! ECMA-130, Annexes A.3 and C.7: the field of 256 elements by x^8+x^4+x^3+x^2+1, α = (02).
 
+use std::sync::LazyLock;
+
 pub const ALPHA: u8 = 0x02;
 
 /// Shifted by one place, and reduced where x^8 appears.
@@ -10,7 +12,7 @@ pub fn times_alpha(x: u8) -> u8 {
 }
 
 /// The sum of `a` shifted to each place where `b` has a ONE.
-pub fn product(a: u8, b: u8) -> u8 {
+fn shifted_and_added(a: u8, b: u8) -> u8 {
     let (mut sum, mut shifted, mut rest) = (0, a, b);
     while rest != 0 {
         if rest & 1 == 1 {
@@ -22,18 +24,34 @@ pub fn product(a: u8, b: u8) -> u8 {
     sum
 }
 
-/// α^n.
+/// Products, inverses and powers, each worked out once by its rule and kept, so that the tests, which ask for them all the time, are quick.
+struct Tables {
+    products: Vec<[u8; 256]>,
+    inverses: Vec<Option<u8>>,
+    powers: Vec<u8>,
+}
+
+static TABLES: LazyLock<Tables> = LazyLock::new(|| {
+    let products: Vec<[u8; 256]> =
+        (0..=255).map(|a| std::array::from_fn(|b| shifted_and_added(a, b as u8))).collect();
+    let inverse = |x: usize| (1..=255).find(|&y| products[y as usize][x] == 1);
+    let inverses = (0..256).map(inverse).collect();
+    let powers = std::iter::successors(Some(1), |&x| Some(times_alpha(x))).take(1024).collect();
+    Tables { products, inverses, powers }
+});
+
+pub fn product(a: u8, b: u8) -> u8 {
+    TABLES.products[a as usize][b as usize]
+}
+
+/// α^n, for n below 1,024.
 pub fn power(n: usize) -> u8 {
-    let mut x = 1;
-    for _ in 0..n {
-        x = times_alpha(x);
-    }
-    x
+    TABLES.powers[n]
 }
 
 /// The y with y·x = 1, found by trying; 0 has none.
 pub fn inverse(x: u8) -> Option<u8> {
-    (1..=255).find(|&y| product(y, x) == 1)
+    TABLES.inverses[x as usize]
 }
 
 #[cfg(test)]

@@ -1,16 +1,16 @@
 //! The proved crates, by the functions of the crates `exports` and `road_exports`. Each hands back the number of its answer, 0 or document 01's number
 //! of the refusal, and puts the values that come with it into lent memory, with zeros behind them.
 
+mod captures;
 mod controls;
 mod data_frames;
-mod captures;
 mod runs;
 mod sectors;
 mod words;
 
+pub use captures::*;
 pub use controls::*;
 pub use data_frames::*;
-pub use captures::*;
 pub use runs::*;
 pub use sectors::*;
 pub use words::*;

@@ -139,7 +139,13 @@ mod tests {
             PastTheEnd,
         ];
         let numbers: Vec<u8> = all.iter().map(|r| r.number()).collect();
-        assert_eq!(numbers, [1, 2, 3, 4, 5, 6, 7, 9, 10, 11, 12, 13, 14, 15, 16, 17, 18, 19, 20, 21, 22, 23, 24, 25, 26, 27, 28, 29, 30, 31]);
+        assert_eq!(
+            numbers,
+            [
+                1, 2, 3, 4, 5, 6, 7, 9, 10, 11, 12, 13, 14, 15, 16, 17, 18, 19, 20, 21, 22, 23, 24,
+                25, 26, 27, 28, 29, 30, 31
+            ]
+        );
         let values: Vec<usize> = all.iter().filter_map(|r| r.value()).collect();
         assert_eq!(values, [85, 51, 4, 1, 2, 3]);
     }

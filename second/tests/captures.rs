@@ -128,11 +128,16 @@ fn parts_of_a_section() {
     let mut random = Random::new(4);
     let channel = section(&mut random, &mut SectionWriter::new());
     let distances: Vec<u16> = gaps(&unpack(&channel)).into_iter().map(|gap| 8 * gap).collect();
+    let (mut with_frames, mut without_header) = (0, 0);
     for _ in 0..300 {
         let start = random.below(600);
         let end = start + random.below(1500.min(distances.len() - start));
-        same_replay(&edges(random.number() as u16, &distances[start..end]), CAPTURE);
+        let capture = edges(random.number() as u16, &distances[start..end]);
+        let (answer, _) = same_replay(&capture, CAPTURE);
+        with_frames += (answer.values[1] > 0) as usize;
+        without_header += (answer.number == 21) as usize;
     }
+    assert!(with_frames > 100 && without_header > 5, "{with_frames} {without_header}");
 }
 
 /// An illegal run anywhere is refused with its index, before it is asked for a header.

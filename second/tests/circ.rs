@@ -123,17 +123,20 @@ fn bursts() {
     assert!((100..FRAMES - 100).contains(&doubts(&answers)), "{}", doubts(&answers));
 }
 
-/// Two or three wrong bytes in many F2-frames: the words of C1 that are lost or falsely mended go on to C2.
+/// Two or three wrong bytes in a fourth of the F2-frames: the words of C1 that are lost or falsely mended go on to C2.
 #[test]
 fn several_wrong_bytes() {
     let (mut random, _, mut f2) = frames(4);
     for frame in &mut f2 {
-        let count = random.below(4);
-        for place in random.places(count, 32) {
-            frame[place] ^= random.change();
+        if random.below(4) == 0 {
+            let count = 2 + random.below(2);
+            for place in random.places(count, 32) {
+                frame[place] ^= random.change();
+            }
         }
     }
-    read(&unmarked(&f2));
+    let (answers, _) = read(&unmarked(&f2));
+    assert!((100..FRAMES - 100).contains(&doubts(&answers)), "{}", doubts(&answers));
 }
 
 /// Steps with a wrong length between the others, which the others do not notice.

@@ -72,7 +72,7 @@ fn words_of_every_length() {
             let mut word = codeword(&mut random, length.min(255), sums);
             word.resize(length, 0);
             word[random.below(length)] ^= random.change();
-            same_verdict(&word, sums);
+            assert_eq!(same_verdict(&word, sums).number, if length <= 255 { 1 } else { 2 });
         }
     }
 }

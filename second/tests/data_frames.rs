@@ -1,10 +1,12 @@
 //! Data Frames held against the proved code: both sides from buffers that held (AA), the same answer and the same bytes.
 
+mod carrying;
+
+use crate::of_lengths;
 use second::codeword::fill;
-use second::data_frame::{carry, read, remainder, write, Fields, LENGTH, MAIN_DATA};
+use second::data_frame::*;
 use second::proved::{self, Told};
 use second::random::Random;
-use second::sector;
 
 fn some_fields(random: &mut Random) -> Fields {
     let mut bit = || random.byte() & 1 == 1;
@@ -43,14 +45,6 @@ fn same_read(frame: &[u8], length: usize) -> (Told<13>, Vec<u8>) {
     (told, found)
 }
 
-fn same_carried(frames: &[u8], start: [u8; 3], length: usize) -> (u8, Vec<u8>) {
-    let (mut expected, mut found) = (vec![0xAA; length], vec![0xAA; length]);
-    let answer = proved::number_of(carry(frames, start, &mut expected));
-    assert_eq!(proved::carry(frames, start, &mut found), answer);
-    assert!(found == expected);
-    (answer, found)
-}
-
 /// The EDC worked out afresh over whatever stands before it.
 fn seal(frame: &mut [u8]) {
     frame[2060..].fill(0);
@@ -78,17 +72,17 @@ fn wrong_lengths() {
     let fields = some_fields(&mut random);
     for main in [0, 2047, 2048, 2049] {
         for out in [0, 2063, 2064, 2065] {
-            let expected = if main != 2048 { 1 } else if out != 2064 { 2 } else { 0 };
-            assert_eq!(same_written(fields, &random.bytes(main), out).0, expected);
+            let (answer, _) = same_written(fields, &random.bytes(main), out);
+            assert_eq!(answer, of_lengths(main == 2048, out == 2064));
         }
     }
     let frame = some_frame(&mut random);
     for length in [0, 6, 2063, 2064, 2065] {
         for main in [0, 2047, 2048, 2049] {
-            let expected = if length != 2064 { 1 } else if main != 2048 { 2 } else { 0 };
             let mut incoming = frame.clone();
             incoming.resize(length, 0);
-            assert_eq!(same_read(&incoming, main).0.number, expected);
+            let (told, _) = same_read(&incoming, main);
+            assert_eq!(told.number, of_lengths(length == 2064, main == 2048));
         }
     }
 }
@@ -126,113 +120,4 @@ fn faults_in_their_order() {
         seal(&mut frame);
         assert_eq!(same_read(&frame, MAIN_DATA).0.number, 30);
     }
-}
-
-/// A frame with one of the three faults, or none.
-fn any_frame(random: &mut Random) -> (u8, Vec<u8>) {
-    let mut frame = some_frame(random);
-    match random.below(12) {
-        0 => {
-            frame[4] ^= random.change();
-            (28, frame)
-        }
-        1 => {
-            frame[700] ^= random.change();
-            (29, frame)
-        }
-        2 => {
-            frame[0] |= 0x10;
-            fill(&mut frame[..6], 4, 2);
-            seal(&mut frame);
-            (30, frame)
-        }
-        _ => (0, frame),
-    }
-}
-
-#[test]
-fn the_first_faulty_frame_decides() {
-    let mut random = Random::new(5);
-    for _ in 0..200 {
-        let count = 1 + random.below(16);
-        let all: Vec<(u8, Vec<u8>)> = (0..count).map(|_| any_frame(&mut random)).collect();
-        let frames: Vec<u8> = all.iter().flat_map(|(_, frame)| frame.clone()).collect();
-        let first = all.iter().map(|(fault, _)| *fault).find(|&fault| fault != 0).unwrap_or(0);
-        let (answer, out) = same_carried(&frames, [0x12, 0x34, 0x56], sector::LENGTH * count);
-        assert_eq!(answer, first);
-        for (n, part) in out.chunks(sector::LENGTH).enumerate() {
-            if answer != 0 {
-                assert!(part.iter().all(|&byte| byte == 0));
-                continue;
-            }
-            let mut again = vec![0xAA; sector::LENGTH];
-            let told = proved::repair(part, &mut again);
-            assert_eq!(told, Told { number: 0, values: [0] });
-            assert!(again == part);
-            assert!(part[16..2064] == frames[LENGTH * n + 12..LENGTH * n + 2060]);
-        }
-    }
-}
-
-#[test]
-fn lengths_of_a_call() {
-    let mut random = Random::new(6);
-    let frames: Vec<u8> = (0..17).flat_map(|_| some_frame(&mut random)).collect();
-    for count in [0, 1, 2, 15, 16, 17] {
-        for extra in [0, 1, 2063] {
-            let length = (LENGTH * count + extra).min(frames.len());
-            let right = length % LENGTH == 0 && (1..=16).contains(&(length / LENGTH));
-            let out = sector::LENGTH * (length / LENGTH);
-            let (answer, left) = same_carried(&frames[..length], [0, 2, 0], out);
-            assert_eq!(answer, if right { 0 } else { 1 });
-            if !right {
-                assert!(left.iter().all(|&byte| byte == 0xAA));
-            } else {
-                assert_eq!(same_carried(&frames[..length], [0, 2, 0], out + 1).0, 2);
-                assert_eq!(same_carried(&frames[..length], [0, 2, 0], out - 1).0, 2);
-            }
-        }
-    }
-}
-
-#[test]
-fn addresses_count_up_to_the_end_of_their_area() {
-    let mut random = Random::new(7);
-    let frames: Vec<u8> = (0..16).flat_map(|_| some_frame(&mut random)).collect();
-    let starts = [
-        [0x00, 0x00, 0x00],
-        [0x00, 0x00, 0x66],
-        [0x00, 0x59, 0x65],
-        [0x09, 0x59, 0x70],
-        [0x59, 0x59, 0x70],
-        [0x99, 0x59, 0x58],
-        [0x99, 0x59, 0x59],
-        [0x99, 0x59, 0x60],
-        [0x99, 0x59, 0x74],
-        [0xA0, 0x00, 0x00],
-        [0xA9, 0x59, 0x70],
-        [0xF8, 0x59, 0x74],
-        [0xF9, 0x59, 0x58],
-        [0xF9, 0x59, 0x59],
-        [0xF9, 0x59, 0x60],
-        [0xF9, 0x59, 0x74],
-        [0x0A, 0x00, 0x00],
-        [0x9A, 0x00, 0x00],
-        [0xFA, 0x00, 0x00],
-        [0x00, 0x60, 0x00],
-        [0x00, 0x00, 0x75],
-    ];
-    let mut seen = std::collections::BTreeSet::new();
-    for start in starts {
-        for count in [1, 2, 15, 16] {
-            let length = sector::LENGTH * count;
-            seen.insert(same_carried(&frames[..LENGTH * count], start, length).0);
-        }
-    }
-    assert_eq!(Vec::from_iter(seen), [0, 4, 31]);
-    let sixteen = sector::LENGTH * 16;
-    assert_eq!(same_carried(&frames, [0x99, 0x59, 0x59], sixteen).0, 0);
-    assert_eq!(same_carried(&frames, [0x99, 0x59, 0x60], sixteen).0, 31);
-    assert_eq!(same_carried(&frames, [0xF9, 0x59, 0x59], sixteen).0, 0);
-    assert_eq!(same_carried(&frames, [0xF9, 0x59, 0x60], sixteen).0, 31);
 }

@@ -2,9 +2,7 @@
 //! input, and what the proved program prints. What the proofs leave to a run is run here: short reads, and what standard error says of a
 //! tail and of what failed.
 
-mod program;
-
-use program::{at, fed, fed_slowly, program, stored, text};
+use crate::program::{at, fed, fed_slowly, program, stored, text};
 use second::empties::empties;
 use second::sector::{empty, LENGTH};
 use std::fs::{self, File, OpenOptions};

@@ -2,9 +2,7 @@
 //! what the proved program prints. What the proofs leave to a run is run here: that the program takes what the C library reads for what it
 //! is, and says on standard error what failed.
 
-mod program;
-
-use program::{at, fed, fed_slowly, program, stored, text};
+use crate::program::{at, fed, fed_slowly, program, stored, text};
 use second::report::report;
 use second::sector::{write, LENGTH};
 use std::fs::{self, File, OpenOptions};
@@ -38,7 +36,8 @@ fn reads_of_sixteen_sectors_leave_none_out() {
         for tail in [0, 1, LENGTH - 1] {
             let bytes = image[3 * LENGTH..][..count * LENGTH + tail].to_vec();
             let expected = report(&bytes);
-            let output = fed("report", move |pipe| pipe.write_all(&bytes).expect("the program reads on"));
+            let output =
+                fed("report", move |pipe| pipe.write_all(&bytes).expect("the program reads on"));
             assert_eq!(text(&output.stdout), expected);
             assert_eq!(text(&output.stderr), "");
         }

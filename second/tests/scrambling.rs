@@ -1,5 +1,6 @@
 //! Proved scrambling and F1-frames against this program, which makes the sequence by the register.
 
+use crate::of_lengths;
 use second::proved::{self, number_of};
 use second::random::Random;
 use second::refusal::Refusal;
@@ -13,12 +14,12 @@ const STEPS: [(Step, ProvedStep); 3] =
     [(scramble, proved::scramble), (cut, proved::cut), (join, proved::join)];
 
 /// Both steps from buffers that held (AA): the same answer and the same bytes.
-fn same(step: (Step, ProvedStep), incoming: &[u8], out_length: usize) -> Vec<u8> {
+fn same(step: (Step, ProvedStep), incoming: &[u8], out_length: usize) -> (u8, Vec<u8>) {
     let (mut expected, mut found) = (vec![0xAA; out_length], vec![0xAA; out_length]);
     let answer = number_of((step.0)(incoming, &mut expected));
     assert_eq!((step.1)(incoming, &mut found), answer);
     assert!(found == expected);
-    found
+    (answer, found)
 }
 
 #[test]
@@ -27,7 +28,7 @@ fn random_sectors() {
     for _ in 0..2_000 {
         let sector = random.bytes(LENGTH);
         for step in STEPS {
-            same(step, &sector, LENGTH);
+            assert_eq!(same(step, &sector, LENGTH).0, 0);
         }
     }
 }
@@ -35,12 +36,12 @@ fn random_sectors() {
 /// A Sector of zeros becomes the whole table.
 #[test]
 fn the_table() {
-    let found = same(STEPS[0], &[0; LENGTH], LENGTH);
+    let (_, found) = same(STEPS[0], &[0; LENGTH], LENGTH);
     assert_eq!(found[..12], [0; 12]);
     assert_eq!(found[12..], sequence());
 }
 
-/// All pairs of lengths near the right one, and some far from it.
+/// All pairs of lengths near the right one, and some far from it: 1 before 2.
 #[test]
 fn lengths() {
     let mut random = Random::new(2);
@@ -49,8 +50,9 @@ fn lengths() {
     for &incoming in &lengths {
         for &outgoing in &lengths {
             let bytes = random.bytes(incoming);
+            let expected = of_lengths(incoming == LENGTH, outgoing == LENGTH);
             for step in STEPS {
-                same(step, &bytes, outgoing);
+                assert_eq!(same(step, &bytes, outgoing).0, expected);
             }
         }
     }

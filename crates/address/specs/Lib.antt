@@ -1,4 +1,4 @@
 -- the address of a Sector (14.2)
 pub mod Address
--- its place in time
-pub mod Elapsed
+-- which of two comes first
+pub mod Order

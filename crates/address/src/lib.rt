@@ -2,9 +2,8 @@
 ghost use mathlib.Core.Path.{_≡_};
 ghost use mathlib.Core.Bool.{_||_};
 ghost use Prim.Native.Nat.{_≤_};
-ghost use lib.Dec.{ltb};
-ghost use Rattle.address.specs.Address.{inProgramArea, inLeadIn, inRange};
-ghost use Rattle.address.specs.Elapsed.{minutes, elapsed};
+ghost use Rattle.address.specs.Address.{inUserDataOrLeadOut, inLeadIn, inRange};
+ghost use Rattle.address.specs.Order.{minutesBefore, rank, earlier};
 
 // The three address bytes of a Sector's header: minute, second, frame.
 pub struct HeaderTime(pub u8, pub u8, pub u8);
@@ -18,8 +17,8 @@ impl HeaderTime {
     }
 
     // Whether the minute is one of the User Data Area or the Lead-out Area.
-    fn in_program_area(self) -> bool
-        ensures { λ r. ⌜ r ≡ inProgramArea self ⌝ }
+    fn in_user_data_or_lead_out(self) -> bool
+        ensures { λ r. ⌜ r ≡ inUserDataOrLeadOut self ⌝ }
     {
         digits::two_digits(self.0, 99)
     }
@@ -37,9 +36,9 @@ impl HeaderTime {
 
     // Whether the minute is one of either.
     fn minute_right(self) -> bool
-        ensures { λ r. ⌜ r ≡ (inProgramArea self || inLeadIn self) ⌝ }
+        ensures { λ r. ⌜ r ≡ (inUserDataOrLeadOut self || inLeadIn self) ⌝ }
     {
-        if self.in_program_area() {
+        if self.in_user_data_or_lead_out() {
             return true;
         }
         self.in_lead_in()
@@ -58,9 +57,9 @@ impl HeaderTime {
         digits::two_digits(self.2, 74)
     }
 
-    // The minutes since the earliest time that an address can have.
-    fn minutes(self) -> u32
-        ensures { λ r. ⌜ (r ≡ minutes self) × (r ≤ 225) ⌝ }
+    // The minutes before that of this address, of the Lead-in Area first.
+    fn minutes_before(self) -> u32
+        ensures { λ r. ⌜ (r ≡ minutesBefore self) × (r ≤ 225) ⌝ }
     {
         let minute = self.0;
         if self.in_lead_in() {
@@ -69,19 +68,19 @@ impl HeaderTime {
         60 + digits::value(minute)
     }
 
-    // The same in 75ths of a second.
-    pub fn elapsed(self) -> u32
-        ensures { λ r. ⌜ r ≡ elapsed self ⌝ }
+    // How many addresses come before this one.
+    pub fn rank(self) -> u32
+        ensures { λ r. ⌜ r ≡ rank self ⌝ }
     {
-        let minutes = self.minutes();
+        let minutes = self.minutes_before();
         let seconds = minutes * 60 + digits::value(self.1);
         seconds * 75 + digits::value(self.2)
     }
 
     // Whether this address lies before the other.
     pub fn earlier(self, other: HeaderTime) -> bool
-        ensures { λ r. ⌜ r ≡ ltb (elapsed self) (elapsed other) ⌝ }
+        ensures { λ r. ⌜ r ≡ earlier self other ⌝ }
     {
-        self.elapsed() < other.elapsed()
+        self.rank() < other.rank()
     }
 }

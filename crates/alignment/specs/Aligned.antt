@@ -4,7 +4,8 @@ use mathlib.Core.List.{List, [], _++_}
 use Prim.Native.Nat.{ℕ, _+_, _-_, _*_, _/_}
 use lib.Dec.{eqb, leb}
 use lib.ListN.{length}
-use Rattle.outcome.specs.Say.{Say, done, refused, demand, Outcome, outcome}
+use Rattle.outcome.specs.Say.{Say, done, demand, Outcome, outcome}
+use Rattle.calls.specs.Step.{handedBack}
 use Rattle.sector.specs.Layout.{zeros}
 use Rattle.f1_frames.specs.Frames.{f1Frames}
 use Rattle.alignment.specs.Row.{isRow}
@@ -32,11 +33,7 @@ alignSay sectors n old =
     (demand (eqb (length old) (24 * framesFor n sectors)) 2
     (done [])))
 
--- a refusal touches nothing: at 1 and 23 no outgoing length is right, and at 2 the one at hand isn't
-abbrev pub leavesUntouched : Say → List ℕ → List ℕ → List ℕ
-leavesUntouched (done vs) new old = new
-leavesUntouched (refused n vs) new old = old
-
--- what `align` answers and leaves, of the Sectors, of n and of what the outgoing buffer held
+-- What `align` answers and leaves, of the Sectors, of n and of what the outgoing buffer held. A refusal touches nothing: at 1 and 23 no outgoing length is right,
+-- and at 2 the one at hand isn't.
 unfoldable pub aligning : List ℕ → ℕ → List ℕ → Outcome
-aligning sectors n old = outcome (alignSay sectors n old) (leavesUntouched (alignSay sectors n old) (aligned n sectors) old)
+aligning sectors n old = outcome (alignSay sectors n old) (handedBack (alignSay sectors n old) (aligned n sectors) old)

@@ -15,7 +15,7 @@ pub enum Answer {
     WrongOutgoing,
 }
 
-// What becomes of one Sector: what a single repair says of it.
+// What becomes of one Sector: what a single repair says of it. A struct, because an array in a struct cannot hold enums.
 pub struct SectorFate {
     pub repaired: Repaired,
 }

@@ -1,2 +1,3 @@
+-- one call with its state, and any list of calls
 pub mod Step
 pub mod Calls

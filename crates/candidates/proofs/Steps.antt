@@ -8,8 +8,8 @@ use lib.Dec.{eqb}
 use lib.ListN.{length}
 use Rattle.outcome.specs.Buffer.Lengths.{same-lengths}
 use Rattle.rspc.specs.declared.Parity.the-variants.{P}
-use Rattle.rspc.specs.Pass.{Pass}
-use Rattle.trial.specs.Tried.{Freshen}
+use Rattle.rspc.specs.PassInPlace.{Pass}
+use Rattle.trial.specs.Freshen.{Freshen}
 use Rattle.candidates.specs.Candidate.{FoundFor}
 
 pub other-length : (r old : List ℕ) → (length r ≡ 2352 → ⊥) → FoundFor r old false old

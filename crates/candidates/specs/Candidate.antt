@@ -9,10 +9,12 @@ use Rattle.outcome.specs.Bytes.{Bytes}
 use Rattle.codeword.specs.Code.{Near}
 use Rattle.rspc.specs.Words.{pWords, pWord, QCodewords}
 use Rattle.rspc.specs.declared.Parity.the-variants.{P}
-use Rattle.rspc.specs.Pass.{eachNear, Passed}
+use Rattle.rspc.specs.Pass.{Passed}
+use Rattle.rspc.specs.PassInPlace.{eachNear}
 use Rattle.sector.specs.Layout.{sync}
 use Rattle.trial.specs.Tried.{Tried}
 pub mod Mended
+pub mod One
 
 -- s is what came in, r, after the pass over its P codewords, as it is tried
 pub record Made (r s : List ℕ) : Type 0 where

@@ -11,9 +11,10 @@ use lib.ListN.{length, replicate}
 use Rattle.outcome.specs.Say.{Say, done, refused, demand}
 use Rattle.address.specs.declared.HeaderTime.{HeaderTime}
 use Rattle.address.specs.Address.{inRange}
-use Rattle.counting.specs.Count.{room}
+use Rattle.address_counting.specs.Count.{room}
 use Rattle.told.specs.Told.{numberOf}
-use Rattle.frame_faults.specs.AllFaults.{allFaults, refusalOf}
+use Rattle.frame_faults.specs.AllFaults.{allFaults}
+use Rattle.frame_faults.specs.Inner.Refusals.{refusalOf}
 use Rattle.frame_faults.specs.AllFaults.Decides.{all-clean, all-faulty}
 use Rattle.carrying.specs.declared.Carrying.{Carrying}
 use Rattle.carrying.specs.declared.Carrying.the-variants.{WrongAddress, PastTheEnd}

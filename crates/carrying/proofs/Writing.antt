@@ -17,8 +17,8 @@ use Rattle.outcome.specs.Say.Refusals.{never}
 use Rattle.lists.specs.Agree.{drop-take}
 use Rattle.address.specs.declared.HeaderTime.{HeaderTime}
 use Rattle.address.specs.Address.{inRange}
-use Rattle.counting.specs.Count.{room, following, after}
-use Rattle.counting.specs.Count.OneMore.{counted}
+use Rattle.address_counting.specs.Count.{room, following, after}
+use Rattle.address_counting.specs.Count.OneMore.{counted}
 use Rattle.data_frame.specs.DataFrame.{mainData}
 use Rattle.modes.specs.Modes.{isWritten}
 use Rattle.writer.specs.Write.{Asked, Writes, refuses, writes}

@@ -7,7 +7,7 @@ use lib.ListN.{length, take, drop, replicate}
 use Rattle.outcome.specs.Say.{Say, done, refused, demand}
 use Rattle.address.specs.declared.HeaderTime.{HeaderTime}
 use Rattle.address.specs.Address.{inRange}
-use Rattle.counting.specs.Count.{room, after}
+use Rattle.address_counting.specs.Count.{room, after}
 use Rattle.data_frame.specs.DataFrame.{mainData}
 use Rattle.frame_faults.specs.AllFaults.{allFaults}
 use Rattle.writer.specs.Write.{Asked}

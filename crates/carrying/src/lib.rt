@@ -4,8 +4,8 @@ ghost use mathlib.Core.Bool.{true};
 ghost use Prim.Native.Nat.{_*_};
 ghost use lib.ListN.{length, replicate};
 ghost use Rattle.address.specs.Address.{inRange};
-ghost use Rattle.counting.specs.Count.{room};
-ghost use Rattle.frame_faults.specs.AllFaults.{refusalOf};
+ghost use Rattle.address_counting.specs.Count.{room};
+ghost use Rattle.frame_faults.specs.Inner.Refusals.{refusalOf};
 ghost use Rattle.carrying.specs.Carry.{DataFrames, Carried, Carries, sayOf};
 ghost use Rattle.carrying.specs.Inner.Numbers.{Counted};
 use address::HeaderTime;
@@ -60,7 +60,7 @@ fn write_each(n: usize, frames: &[u8], start: HeaderTime, out: &mut [u8])
         let from = 2064 * i + 12;
         let to = 2352 * i;
         writer::write(1, time, &frames[from..from + 2048], &mut out[to..to + 2352]);
-        let next = counting::following(time);
+        let next = address_counting::following(time);
         time = next;
         i += 1;
     }
@@ -92,7 +92,7 @@ pub fn carry(frames: &[u8], start: HeaderTime, out: &mut [u8]) -> Carrying
     if !start.in_range() {
         return refuse(Carrying::WrongAddress, out);
     }
-    if !counting::fits(start, n) {
+    if !address_counting::fits(start, n) {
         return refuse(Carrying::PastTheEnd, out);
     }
     write_each(n, frames, start, out);

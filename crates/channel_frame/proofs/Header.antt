@@ -10,6 +10,7 @@ use lib.ListN.{length, take, drop, length-take, length-drop}
 use lib.Seq.{take-add, drop-drop}
 use Rattle.bits.specs.Bits.Numbers.{number-append, number-shift}
 use Rattle.bits.specs.Bits.{number}
+use Rattle.words.specs.Words.{syncHeader}
 use Rattle.fields.specs.Fields.{fieldAt}
 use Rattle.channel_frame.specs.ChannelFrame.{headless}
 
@@ -23,10 +24,10 @@ halves bits p h =
 
 module _ (bits : List ℕ) (f : ℕ) (room : 588 * f + 24 ≤ length bits) (small : fieldAt bits (588 * f + 12) 12 < 4096) where
   pub has-header : fieldAt bits (588 * f) 12 ≡ 2049 → fieldAt bits (588 * f + 12) 12 ≡ 2 → headless bits f ≡ false
-  has-header p q = ap not (eq-eqb (fieldAt bits (588 * f) 24) 8392706 (halves bits (588 * f) room ∙ omega arith))
+  has-header p q = ap not (eq-eqb (fieldAt bits (588 * f) 24) syncHeader (halves bits (588 * f) room ∙ omega arith))
 
   pub no-first-half : (fieldAt bits (588 * f) 12 ≡ 2049 → ⊥) → headless bits f ≡ true
-  no-first-half n = ap not (ne-eqb (fieldAt bits (588 * f) 24) 8392706 (λ e. n (omega (arith, halves bits (588 * f) room))))
+  no-first-half n = ap not (ne-eqb (fieldAt bits (588 * f) 24) syncHeader (λ e. n (omega (arith, halves bits (588 * f) room))))
 
   pub no-second-half : (fieldAt bits (588 * f + 12) 12 ≡ 2 → ⊥) → headless bits f ≡ true
-  no-second-half n = ap not (ne-eqb (fieldAt bits (588 * f) 24) 8392706 (λ e. n (omega (arith, halves bits (588 * f) room))))
+  no-second-half n = ap not (ne-eqb (fieldAt bits (588 * f) 24) syncHeader (λ e. n (omega (arith, halves bits (588 * f) room))))

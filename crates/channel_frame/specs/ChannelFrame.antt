@@ -6,9 +6,10 @@ use mathlib.Core.List.{List}
 use Prim.Native.Nat.{ℕ, _+_, _*_}
 use lib.Dec.{eqb}
 use lib.ListN.{take, drop}
-use Rattle.words.specs.Words.{byteOf}
+use Rattle.words.specs.Words.{byteOf, syncHeader}
 use Rattle.fields.specs.Fields.{fieldAt}
 use Rattle.word_marks.specs.Marks.{byteFor, markFor}
+pub mod Merging
 pub mod Own
 pub mod Lost
 pub mod Standing
@@ -19,7 +20,7 @@ frameBits bits f = take 588 (drop (588 * f) bits)
 
 -- frame f does not begin with the Sync Header
 abbrev pub headless : List ℕ → ℕ → Bool
-headless bits f = not (eqb (fieldAt bits (588 * f) 24) 0b100000000001000000000010)
+headless bits f = not (eqb (fieldAt bits (588 * f) 24) syncHeader)
 
 -- the word at place i of frame f: the Sync Header has 24 bits, and each word stands after three Merging bits
 abbrev pub wordRead : List ℕ → ℕ → ℕ → ℕ

@@ -23,11 +23,11 @@ use Rattle.traces.specs.Better.{betterOf}
 use Rattle.choosing.specs.Inner.{WordStands}
 use Rattle.choosing.specs.Choices.{beforeNextWord, chosenWord}
 use Rattle.profiles.specs.Profiles.{Profiled}
-use Rattle.states.specs.States.{entered, afterWord, afterZeros, oneAfter}
+use Rattle.automaton_states.specs.States.{entered, afterWord, afterZeros, oneAfter}
 use Rattle.traces.specs.Strokes.{spent}
 use Rattle.traces.specs.Traces.{tallyDsv, Fit}
 use Rattle.traces.specs.Better.Stands.{better-stands}
-use Rattle.states.specs.States.Right.{ones-enter, zeros-enter, one-low}
+use Rattle.automaton_states.specs.States.Right.{ones-enter, zeros-enter, one-low}
 use Rattle.traces.specs.Strokes.Right.{spent-is}
 
 -- sums of the bits of a level

@@ -4,7 +4,7 @@ ghost use Prim.Native.Nat.{_≤_, _<_};
 ghost use Rattle.bits.specs.Bits.{bitsOf};
 ghost use Rattle.merging.specs.Chosen.{m000};
 ghost use Rattle.words.specs.Symbols.{symbols};
-ghost use Rattle.states.specs.States.{oneAfter};
+ghost use Rattle.automaton_states.specs.States.{oneAfter};
 ghost use Rattle.profiles.specs.Profiles.{Profiled, rows};
 ghost use Rattle.traces.specs.Traces.{Fit};
 ghost use Rattle.choosing.specs.Choices.{chosenWord, wordChoice};
@@ -19,8 +19,8 @@ fn with_one(t: Trace, p: Profile, m: u32, before: u8) -> Choice
     ensures { λ r. ⌜ WordStands t (bitsOf 14 (p .word)) r (oneAfter before) ⌝ }
 {
     let tally = t.tally;
-    let entry = states::enter(t.run, before, 2 - before, 13 - before);
-    let run = states::after_word(entry, p.lead, p.plain, p.ten);
+    let entry = automaton_states::enter(t.run, before, 2 - before, 13 - before);
+    let run = automaton_states::after_word(entry, p.lead, p.plain, p.ten);
     let a = before as u64;
     let after = traces::spend(tally, a + (14 - p.ups), (3 - a) + p.ups, 1 - p.odd);
     let next = Trace {
@@ -39,8 +39,8 @@ fn without_one(t: Trace, p: Profile) -> Choice
     ensures { λ r. ⌜ WordStands t (bitsOf 14 (p .word)) r m000 ⌝ }
 {
     let tally = t.tally;
-    let entry = states::after_zeros(t.run);
-    let run = states::after_word(entry, p.lead, p.plain, p.ten);
+    let entry = automaton_states::after_zeros(t.run);
+    let run = automaton_states::after_word(entry, p.lead, p.plain, p.ten);
     let after = traces::spend(tally, 3 + p.ups, 14 - p.ups, p.odd);
     let next = Trace {
         run: run,

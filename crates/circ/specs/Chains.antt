@@ -1,8 +1,9 @@
 -- The CIRC writer and reader (clause 17, Annex C), over whatever the two codes do: three stages of delays with C2 and C1 between them.
 -- Assumes nothing.
-use Prim.Native.Nat.{ℕ}
+use Prim.Native.Nat.{ℕ, _+_}
 use mathlib.Core.List.{List, [], _∷_, _++_}
-use lib.ListN.{take, drop, replicate}
+use lib.ListN.{take, drop}
+use Rattle.lines.specs.Delay.{total, zeros}
 use Rattle.lines.specs.Stream.{outAt}
 use Rattle.lines.specs.Chain.{chainOut, chainNext, chainAt}
 use Rattle.circ.specs.Rows.{placed, collected, doubt, beforeC2, between, afterC1, readerBeforeC1, readerBetween, readerAfterC2, inverted}
@@ -15,9 +16,13 @@ withQ q w = take 12 w ++ (q w ++ drop 16 w)
 unfoldable pub withP : (List ℕ → List ℕ) → List ℕ → List ℕ
 withP p w = w ++ p w
 
--- the store of a fresh writer: 24 bytes wait before C2, 1,512 between C2 and C1, 16 after C1
+-- how many bytes wait in a writer: 24 before C2, 1,512 between C2 and C1, 16 after C1
+abbrev pub writerHolds : ℕ
+writerHolds = total beforeC2 + (total between + total afterC1)
+
+-- the store of a fresh one
 abbrev pub freshWriter : List ℕ
-freshWriter = replicate 1552 0
+freshWriter = zeros writerHolds
 
 module _ (q p : List ℕ → List ℕ) where
   -- the F2-frame that a writer with the store s makes of an F1-frame: all eight parity bytes leave inverted
@@ -71,10 +76,6 @@ module _ (fix₁ fix₂ : List ℕ → List ℕ) (mark : List ℕ → ℕ) where
   -- its doubt mark: 1 where either of the two C2 words that its bytes came from is marked
   abbrev pub readerDoubt : List ℕ → List ℕ → ℕ
   readerDoubt s frame = doubt (readerRows s frame)
-
-  -- the reader's store after that
-  unfoldable pub readerNext : List ℕ → List ℕ → List ℕ
-  readerNext s frame = chainNext readerBeforeC1 readerBetween readerAfterC2 inverted (throughC1 fix₁) (throughC2 fix₂ mark) s frame
 
   -- the store of a fresh reader before step n, when the frames g go in
   unfoldable pub readerAt : (ℕ → List ℕ) → ℕ → List ℕ

@@ -1,8 +1,9 @@
 -- The CIRC reader (clause 17, Annex C) with marks (document 02, §7). A word has its marks behind it, as further rows: a mark waits as its byte does.
 -- Assumes nothing.
-use Prim.Native.Nat.{ℕ}
+use Prim.Native.Nat.{ℕ, _+_}
 use mathlib.Core.List.{List, [], _∷_, _++_}
 use lib.ListN.{take, drop, replicate}
+use Rattle.lines.specs.Delay.{total, zeros}
 use Rattle.lines.specs.Stream.{outAt}
 use Rattle.lines.specs.Chain.{chainOut, chainNext, chainAt}
 use Rattle.circ.specs.Rows.{collected, doubt, readerBeforeC1, readerBetween, readerAfterC2, inverted}
@@ -58,9 +59,13 @@ markedDoubt s x = doubt (markedRows s x)
 unfoldable pub markedNext : List ℕ → List ℕ → List ℕ
 markedNext s x = chainNext (twice readerBeforeC1) (twice readerBetween) readerAfterC2 entering passC1 passC2 s x
 
--- the store of a fresh reader: 16 bytes wait before C1, 1,512 between C1 and C2, each with its mark, and 24 bytes and two doubts after C2
+-- how many bytes and marks wait in a reader: 16 bytes before C1 and 1,512 between C1 and C2, each with its mark, and 24 bytes and two doubts after C2
+abbrev pub readerHolds : ℕ
+readerHolds = total (twice readerBeforeC1) + (total (twice readerBetween) + total readerAfterC2)
+
+-- the store of a fresh one
 abbrev pub freshReader : List ℕ
-freshReader = replicate 3082 0
+freshReader = zeros readerHolds
 
 -- the store of a fresh reader before step n, when the frames g go in with the marks k
 unfoldable pub markedAt : (g k : ℕ → List ℕ) → ℕ → List ℕ

@@ -1,4 +1,4 @@
--- What marks say.
+-- What marks say: the marks that come in with bytes (document 02, §7), and a word's own (document 01, "CIRC (Annex C)").
 -- Assumes nothing.
 use mathlib.Core.Path.{_≡_}
 use mathlib.Core.Bool.{cond}

@@ -1,4 +1,4 @@
--- A step of a CIRC writer or reader that takes a frame and gives a frame: refusals 1 and 2.
+-- A step of a CIRC writer or reader that takes a frame and gives a frame (Annex C.2, C.9), with the refusals of document 01, "Numbers that come back": 1 and 2.
 -- Assumes nothing.
 use Prim.Native.Nat.{ℕ}
 use mathlib.Core.Bool.{Bool}

@@ -1,5 +1,5 @@
--- A step of the CIRC writer and of the CIRC reader, on every state and every input: what it says, the state that it hands back, and what the
--- outgoing buffer then holds. Refusals 1 and 2 in this order.
+-- A step of the CIRC writer and of the CIRC reader (clause 17, Annex C; document 02, §7), on every state and every input: what it says, the state that it
+-- hands back, and what the outgoing buffer then holds. Refusals 1 and 2 in this order (document 01, "Numbers that come back").
 -- Assumes nothing.
 use Prim.Native.Nat.{ℕ}
 use mathlib.Core.Bool.{Bool, _&&_}

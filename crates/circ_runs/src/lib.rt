@@ -6,7 +6,6 @@ ghost use lib.ListN.{length, getD};
 ghost use Rattle.circ.specs.Chains.{freshWriter};
 ghost use Rattle.circ.specs.Marked.{freshReader};
 ghost use Rattle.circ_reader.specs.Answers as readers;
-ghost use Rattle.circ_writer.specs.Answers as writers;
 ghost use Rattle.told.specs.Told.{numberOf, valuesOf};
 ghost use Rattle.circ_runs.specs.Runs.{call, left, runs};
 ghost use Rattle.circ.specs.Rings.{writerRings, freshWriterRings, readerRings, freshReaderRings};
@@ -14,21 +13,12 @@ ghost use Rattle.circ_runs.specs.Coders.{writing, reading, writingInPlac
 ghost use Rattle.circ_runs.specs.Inner.Coding.{coding, oneOf, Leaves};
 use crate::lending::end_of;
 use crate::lending::put;
+use circ_reader::CircReader;
 use circ_reader::ReaderAnswer;
 use circ_reader::read_in_place;
-use circ_writer::WriterAnswer;
+use circ_writer::CircWriter;
+use circ_writer::number;
 use circ_writer::write_in_place;
-
-fn written(a: WriterAnswer) -> u8
-    ensures { λ r. ⌜ r ≡ numberOf (writers.sayOf a) ⌝ }
-{
-    match a {
-        WriterAnswer::Written => 0,
-        WriterAnswer::WrongIncoming => 1,
-        WriterAnswer::WrongOutgoing => 2,
-        WriterAnswer::WrongPlace => 6,
-    }
-}
 
 fn was_read(a: ReaderAnswer) -> u8
     ensures { λ r. ⌜ r ≡ numberOf (readers.sayOf a) ⌝ }
@@ -67,7 +57,7 @@ fn write_frame(
     ensures { λ _. ⌜ Leaves writingInPlace (writerRings (now (places .entry)) (now (store .entry))) (call (now (frame .entry)) (now (out .entry))) (writerRings (now (places .exit)) (now (store .exit))) (now (pair .exit)) (now (out .exit)) ⌝ }
 {
     let answer = write_in_place(store, places, frame, out);
-    put(written(answer), 0, pair);
+    put(number(answer), 0, pair);
 }
 
 // The same of the reader: the frame is the first 32 bytes, and behind it are its marks.
@@ -91,10 +81,12 @@ fn run(reads: bool, frames: &[u8], steps: &mut [u8], out: &mut [u8])
     ensures { λ _. ⌜ left (now (steps .exit)) (now (out .exit))
         ≡ runs (coding reads) (oneOf reads freshReaderRings freshWriterRings) (now (steps .entry)) (now (frames .entry)) (now (out .entry)) ⌝ }
 {
-    let mut write_store = [0u8; 1552];
-    let mut write_places = [0u8; 55];
-    let mut read_store = [0u8; 3082];
-    let mut read_places = [0u8; 56];
+    let writer = CircWriter::new();
+    let mut write_store = writer.store;
+    let mut write_places = writer.places;
+    let reader = CircReader::new();
+    let mut read_store = reader.store;
+    let mut read_places = reader.places;
     let mut k: usize = 0;
     let mut from: usize = 0;
     let mut to: usize = 0;

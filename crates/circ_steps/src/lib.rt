@@ -4,21 +4,10 @@ ghost use mathlib.Core.List.{[]};
 ghost use Rattle.calls.specs.Step.{step};
 ghost use Rattle.circ.specs.Rings.{writerRings, writesInPlace, readerRings, readsInPlace};
 ghost use Rattle.circ_reader.specs.Answers as readers;
-ghost use Rattle.circ_writer.specs.Answers as writers;
-ghost use Rattle.told.specs.Told.{numberOf, Tells, Told};
+ghost use Rattle.told.specs.Told.{Tells, Told};
+use circ_reader::CircReader;
 use circ_reader::ReaderAnswer;
-use circ_writer::WriterAnswer;
-
-fn written(a: WriterAnswer) -> u8
-    ensures { λ r. ⌜ r ≡ numberOf (writers.sayOf a) ⌝ }
-{
-    match a {
-        WriterAnswer::Written => 0,
-        WriterAnswer::WrongIncoming => 1,
-        WriterAnswer::WrongOutgoing => 2,
-        WriterAnswer::WrongPlace => 6,
-    }
-}
+use circ_writer::CircWriter;
 
 // With a frame comes its doubt mark.
 fn was_read(a: ReaderAnswer, doubt: &mut [u64; 1]) -> u8
@@ -42,7 +31,19 @@ pub fn write(store: &mut [u8; 1552], places: &mut [u8; 55], frame: &[u8], out: &
     ensures { λ r. ⌜ Told 0 (λ say. step say (writerRings (now (places .exit)) (now (store .exit))) (now (out .exit))
         ≡ writesInPlace (writerRings (now (places .entry)) (now (store .entry))) (now (frame .entry)) (now (out .entry))) r [] ⌝ }
 {
-    written(circ_writer::write_in_place(store, places, frame, out))
+    let waiting = *store;
+    let at = *places;
+    let state = CircWriter {
+        store: waiting,
+        places: at,
+    };
+    let stepped = state.step(frame, out);
+    let next_store = stepped.next.store;
+    let next_places = stepped.next.places;
+    *store = next_store;
+    *places = next_places;
+    let answer = stepped.answer;
+    circ_writer::number(answer)
 }
 
 // The same of the reader.
@@ -57,8 +58,17 @@ pub fn read(
     ensures { λ r. ⌜ Told 1 (λ say. step say (readerRings (now (places .exit)) (now (store .exit))) (now (out .exit))
         ≡ readsInPlace (readerRings (now (places .entry)) (now (store .entry))) (now (frame .entry)) (now (marks .entry)) (now (out .entry))) r (now (doubt .exit)) ⌝ }
 {
-    was_read(
-        circ_reader::read_in_place(store, places, frame, marks, out),
-        doubt,
-    )
+    let waiting = *store;
+    let at = *places;
+    let state = CircReader {
+        store: waiting,
+        places: at,
+    };
+    let stepped = state.step(frame, marks, out);
+    let next_store = stepped.next.store;
+    let next_places = stepped.next.places;
+    *store = next_store;
+    *places = next_places;
+    let answer = stepped.answer;
+    was_read(answer, doubt)
 }

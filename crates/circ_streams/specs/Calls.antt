@@ -1,4 +1,5 @@
--- Public calls of the CIRC writer and reader: a list of them from `new()`, with anything coming in and any buffers, refused ones among them.
+-- Public calls of the CIRC writer and reader (document 01, "CIRC (Annex C)"; document 02, §9): a list of them from `new()`, with anything coming in and any buffers,
+-- refused ones among them.
 -- Assumes nothing.
 use mathlib.Core.Bool.{Bool, cond, _&&_}
 use mathlib.Core.List.{List, [], _∷_, map}
@@ -10,7 +11,7 @@ use Rattle.calls.specs.Calls.{run, doneOf}
 use Rattle.circ.specs.Steps.{fitsWriter, writes, fitsReader, reads}
 use Rattle.circ.specs.Chains.{freshWriter}
 use Rattle.circ.specs.Marked.{freshReader}
-use Rattle.circ.specs.Rings.{Rings, writesInPlace, readsInPlace}
+use Rattle.circ.specs.Rings.{Rings, writesInPlace, freshWriterRings, readsInPlace, freshReaderRings}
 pub mod Alike
 pub mod Done
 pub mod Streams
@@ -50,6 +51,13 @@ writerDone cs = doneOf (run writerDoes freshWriter cs)
 abbrev pub readerDone : List (Call MarkedFrame) → List (Step (List ℕ))
 readerDone cs = doneOf (run readerDoes freshReader cs)
 
+-- the same of the public steps
+abbrev pub writerDoneInPlace : List (Call (List ℕ)) → List (Step Rings)
+writerDoneInPlace cs = doneOf (run writerInPlace freshWriterRings cs)
+
+abbrev pub readerDoneInPlace : List (Call MarkedFrame) → List (Step Rings)
+readerDoneInPlace cs = doneOf (run readerInPlace freshReaderRings cs)
+
 -- whether all lengths are right
 abbrev pub fits : {X : Type 0} → (X → Bool) → ℕ → Call X → Bool
 fits test outgoing c = test (c .incoming) && eqb (length (c .out)) outgoing
@@ -73,5 +81,5 @@ abbrev pub readerFrames : List (Call MarkedFrame) → List MarkedFrame
 readerFrames cs = incomings (fitting fitsBoth 24 cs)
 
 -- what the buffers of steps hold
-abbrev pub outs : List (Step (List ℕ)) → List (List ℕ)
+abbrev pub outs : {S : Type 0} → List (Step S) → List (List ℕ)
 outs ts = map (λ t. t .out) ts

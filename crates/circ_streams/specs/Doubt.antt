@@ -18,9 +18,9 @@ pub data NoneFound (m w : List ℕ) : Type 0 where
   too-many : 4 < weight m → NoneFound m w
 
 -- of the C2 word that a reader of the frames g with the marks k meets at step n
-abbrev pub Lost : (g k : ℕ → List ℕ) → ℕ → Type 0
-Lost g k n = NoneFound (marksMetC2 g k n) (wordMetC2 g k n)
+abbrev pub InDoubt : (g k : ℕ → List ℕ) → ℕ → Type 0
+InDoubt g k n = NoneFound (marksMetC2 g k n) (wordMetC2 g k n)
 
 -- the bytes of step n came from the C2 word of that step and, from step 2 on, from the one of two steps before
 abbrev pub Doubted : (g k : ℕ → List ℕ) → ℕ → Type 0
-Doubted g k n = Lost g k n ⊎ ((2 ≤ n) × Lost g k (n - 2))
+Doubted g k n = InDoubt g k n ⊎ ((2 ≤ n) × InDoubt g k (n - 2))

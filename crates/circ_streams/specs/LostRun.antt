@@ -12,6 +12,7 @@ use Rattle.circ_streams.specs.Calls.{MarkedFrame, marked}
 pub mod Any
 pub mod Streams
 pub mod Calls
+pub mod Public
 
 -- the longest run after which every F1-frame comes back; one frame more always brings doubt
 abbrev pub longestRun : ℕ

@@ -1,4 +1,4 @@
--- Streams of frames through a fresh CIRC writer and a fresh CIRC reader: one frame at each step, counted from 0.
+-- Streams of frames through a fresh CIRC writer and a fresh CIRC reader (document 01, "CIRC (Annex C)"; document 02, §7): one frame at each step, counted from 0.
 -- Assumes nothing.
 use mathlib.Core.Path.{_≡_}
 use mathlib.Core.List.{List, _++_}
@@ -6,7 +6,7 @@ use Prim.Native.Nat.{ℕ}
 use lib.ListN.{length, getD}
 use Rattle.outcome.specs.Bytes.{Bytes}
 use Rattle.circ.specs.Chains.{written, readerAt, readerOut, readerDoubt}
-use Rattle.circ.specs.Codes.{qOf, pOf, corrected, lost}
+use Rattle.circ.specs.Codes.{qOf, pOf, corrected, wordMark}
 use Rattle.circ.specs.Marks.{lostBy}
 use Rattle.circ.specs.Marked.{markedAt, markedOut, markedDoubt}
 pub mod Steps
@@ -48,10 +48,10 @@ doubtAt g k n = markedDoubt (markedAt g k n) (g n ++ k n)
 
 -- the same of the reader as it was before it took marks
 abbrev pub f1Before : (ℕ → List ℕ) → ℕ → List ℕ
-f1Before g n = readerOut corrected corrected lost (readerAt corrected corrected lost g n) (g n)
+f1Before g n = readerOut corrected corrected wordMark (readerAt corrected corrected wordMark g n) (g n)
 
 abbrev pub doubtBefore : (ℕ → List ℕ) → ℕ → ℕ
-doubtBefore g n = readerDoubt corrected corrected lost (readerAt corrected corrected lost g n) (g n)
+doubtBefore g n = readerDoubt corrected corrected wordMark (readerAt corrected corrected wordMark g n) (g n)
 
 -- how many steps a frame is on its way: its bytes wait 1, 108 and 2 frames around C1, between C1 and C2, around C2
 abbrev pub roundTrip : ℕ

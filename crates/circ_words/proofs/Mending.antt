@@ -8,19 +8,18 @@ use native.Mathlib.Omega.{arith}
 use borrow.Author.Tests.{ltb-true}
 use lib.Dec.{ltb}
 use lib.ListN.{length}
-use Rattle.codeword.specs.Nearest.{isCodeword, placeBefore, newByte, bytesAfter, verdict, mended, nearest}
+use Rattle.codeword.specs.Nearest.{isCodeword, placeBefore, newByte, bytesAfter, verdict, mended, nearest, foundOr}
 use Rattle.codeword.specs.declared.Verdict.{Verdict}
 use Rattle.codeword.specs.declared.Verdict.the-variants as verdicts
-use Rattle.erasures.specs.Agreeing.{handedOn}
-use Rattle.circ.specs.Codes.{markOf, corrected, lost}
+use Rattle.circ.specs.Codes.{markOf, corrected, wordMark}
 
 module _ (w : List ℕ) (v : Verdict) (e : v ≡ verdict 4 w) where
   -- the mark and the word that a verdict gives
-  pub by-verdict : (u : Verdict) → v ≡ u → (markOf (mended w u) ≡ lost w) × (handedOn w (mended w u) ≡ corrected w)
-  unfolding lost corrected nearest
+  pub by-verdict : (u : Verdict) → v ≡ u → (markOf (mended w u) ≡ wordMark w) × (foundOr w (mended w u) ≡ corrected w)
+  unfolding wordMark corrected nearest
   by-verdict u p =
       let q : u ≡ verdict 4 w = sym p ∙ e in
-      (ap (λ (x : Verdict). markOf (mended w x)) q, ap (λ (x : Verdict). handedOn w (mended w x)) q)
+      (ap (λ (x : Verdict). markOf (mended w x)) q, ap (λ (x : Verdict). foundOr w (mended w x)) q)
 
   -- a byte that is to be changed lies in the word
   pub inside : (i b : ℕ) → v ≡ verdicts.Change i b → i < length w

@@ -6,25 +6,25 @@ use mathlib.Core.List.{List}
 use mathlib.Core.Option.{Option, none, some}
 use Prim.Native.Nat.{ℕ, _≤_, _<_}
 use Rattle.codeword.specs.Code.{weight}
-use Rattle.erasures.specs.Agreeing.{handedOn}
-use Rattle.filling.specs.Fill.{filled, isFilled, Fills}
-use Rattle.circ.specs.Codes.{markOf, corrected, lost}
+use Rattle.codeword.specs.Nearest.{foundOr, isFound}
+use Rattle.filling.specs.Fill.{filled, Fills}
+use Rattle.circ.specs.Codes.{markOf, corrected, wordMark}
 use Rattle.circ_words.specs.Words.{HandsOn}
 use Rattle.circ_words.specs.Words.Found.{found-near, found-filled, found-none}
 
 module _ (most : ℕ) (m w : List ℕ) where
-  pub by-nearest : (out : List ℕ) (mark : ℕ) → weight m ≡ 0 → (mark ≡ lost w) × (out ≡ corrected w) → HandsOn most m w out mark
-  unfolding lost corrected
+  pub by-nearest : (out : List ℕ) (mark : ℕ) → weight m ≡ 0 → (mark ≡ wordMark w) × (out ≡ corrected w) → HandsOn most m w out mark
+  unfolding wordMark corrected
   by-nearest out mark z (p, q) =
       record {
-        leaves = q ∙ ap (handedOn w) (sym (found-near most m w z));
+        leaves = q ∙ ap (foundOr w) (sym (found-near most m w z));
         answer = p ∙ ap markOf (sym (found-near most m w z));
       }
 
   pub too-many : most < weight m → HandsOn most m w w 1
-  too-many h = record { leaves = ap (handedOn w) (sym (found-none most m w h)); answer = ap markOf (sym (found-none most m w h)) }
+  too-many h = record { leaves = ap (foundOr w) (sym (found-none most m w h)); answer = ap markOf (sym (found-none most m w h)) }
 
-  mark-by : (o : Option (List ℕ)) → markOf o ≡ cond (isFilled o) 0 1
+  mark-by : (o : Option (List ℕ)) → markOf o ≡ cond (isFound o) 0 1
   mark-by (some c) = refl
   mark-by none = refl
 
@@ -33,6 +33,6 @@ module _ (most : ℕ) (m w : List ℕ) where
   by-filling out r t h l f p =
       let is = found-filled most m w h l in
       record {
-        leaves = f .leaves ∙ ap (handedOn w) (sym is);
+        leaves = f .leaves ∙ ap (foundOr w) (sym is);
         answer = ap (λ (b : Bool). cond {A = ℕ} b 0 1) (sym p ∙ f .answer) ∙ sym (mark-by (filled m w)) ∙ ap markOf (sym is);
       }

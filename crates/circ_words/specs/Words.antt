@@ -8,8 +8,7 @@ use mathlib.Core.Option.{Option, none}
 use Prim.Native.Nat.{ℕ}
 use lib.Dec.{eqb, leb}
 use Rattle.codeword.specs.Code.{weight}
-use Rattle.codeword.specs.Nearest.{nearest}
-use Rattle.erasures.specs.Agreeing.{handedOn}
+use Rattle.codeword.specs.Nearest.{nearest, foundOr}
 use Rattle.filling.specs.Fill.{filled}
 use Rattle.circ.specs.Codes.{markOf}
 pub mod Found
@@ -20,5 +19,5 @@ found most m w = cond (eqb (weight m) 0) (nearest 4 w) (cond (leb (weight m) mos
 
 -- what is handed on, and its mark
 pub record HandsOn (most : ℕ) (m w out : List ℕ) (mark : ℕ) : Type 0 where
-  pub leaves : out ≡ handedOn w (found most m w)
+  pub leaves : out ≡ foundOr w (found most m w)
   pub answer : mark ≡ markOf (found most m w)

@@ -1,12 +1,12 @@
 // What becomes of a word of C1 or C2 in reading, by its marks (Annex C.7; document 02, §7).
 ghost use mathlib.Core.Path.{_≡_};
-ghost use Rattle.circ.specs.Codes.{corrected, lost};
+ghost use Rattle.circ.specs.Codes.{corrected, wordMark};
 ghost use Rattle.circ_words.specs.Words.{HandsOn};
 use codeword::Verdict;
 
 // The word becomes the codeword near it, if there is one; the answer is the mark of a word that has none.
 fn mend(word: &mut [u8]) -> u8
-    ensures { λ r. ⌜ (r ≡ lost (now (word .entry))) × (now (word .exit) ≡ corrected (now (word .entry))) ⌝ }
+    ensures { λ r. ⌜ (r ≡ wordMark (now (word .entry))) × (now (word .exit) ≡ corrected (now (word .entry))) ⌝ }
 {
     let verdict = quick_verdicts::verdict_of_four(word);
     match verdict {
@@ -24,7 +24,7 @@ fn mend(word: &mut [u8]) -> u8
 pub fn treat(marks: &[u8], word: &mut [u8], most: usize) -> u8
     ensures { λ r. ⌜ HandsOn most (now (marks .entry)) (now (word .entry)) (now (word .exit)) r ⌝ }
 {
-    let n = marks::marked(marks);
+    let n = mark_counts::count_marked(marks);
     if n == 0 {
         return mend(word);
     }

@@ -6,6 +6,7 @@ ghost use Rattle.circ_writer.specs.Answers.{sayOf};
 ghost use Rattle.circ_writer.specs.Inner.Writing.{WriterAsks, WriterGone};
 ghost use Rattle.lines.specs.Delay.{zeros};
 ghost use Rattle.calls.specs.Step.{step};
+ghost use Rattle.told.specs.Told.{numberOf};
 ghost use Rattle.circ.specs.Rings.{writerRings, writesInPlace};
 
 mod ring_lengths;
@@ -23,6 +24,18 @@ pub enum WriterAnswer {
     WrongIncoming,
     WrongOutgoing,
     WrongPlace,
+}
+
+// Its number, for callers in other languages.
+pub fn number(a: WriterAnswer) -> u8
+    ensures { λ r. ⌜ r ≡ numberOf (sayOf a) ⌝ }
+{
+    match a {
+        WriterAnswer::Written => 0,
+        WriterAnswer::WrongIncoming => 1,
+        WriterAnswer::WrongOutgoing => 2,
+        WriterAnswer::WrongPlace => 6,
+    }
 }
 
 pub struct WriterStep {

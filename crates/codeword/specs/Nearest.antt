@@ -1,7 +1,7 @@
--- The verdict on a word and the codeword near it (Annex A, Annex C.7). That this is the one c with `Near J w c`, and that it is found wherever there is
--- one, are the laws of `NearestLaws`.
+-- The verdict on a word and the codeword near it: the codewords are those of Annex A and Annex C.7, and that the nearest takes a word's place is document 01's
+-- rule (demand 3, "CIRC"). With two sums or more this is the one c with `Near J w c` (Code/NearOne), found wherever there is one (Nearest/Finds).
 -- Assumes nothing.
-use mathlib.Core.Bool.{Bool, cond}
+use mathlib.Core.Bool.{Bool, true, false, cond}
 use mathlib.Core.List.{List}
 use mathlib.Core.Option.{Option, none, some}
 use Prim.Native.Nat.{ℕ, _-_}
@@ -39,8 +39,8 @@ change w m = cond (ltb m (length w)) (Change (placeBefore m (length w)) (newByte
 abbrev pub bytesAfter : ℕ → List ℕ → ℕ
 bytesAfter J w = firstBelow (λ m. isCodeword J (changed w m)) (length w)
 
--- What to do with a word: more than 255 bytes are lost, a codeword is clean, else that byte is to be changed; and with none the
--- word is lost.
+-- What to do with a word: a codeword is clean, else that byte is to be changed; and with none the word is lost. So is a word of more than 255 bytes,
+-- for two codewords can be near it: α^255 is 1.
 unfoldable pub verdict : ℕ → List ℕ → Verdict
 verdict J w =
     cond (ltb 255 (length w)) Lost (cond (isCodeword J w) Clean (change w (bytesAfter J w)))
@@ -54,3 +54,13 @@ mended w Lost = none
 -- the codeword near w
 unfoldable pub nearest : ℕ → List ℕ → Option (List ℕ)
 nearest J w = mended w (verdict J w)
+
+-- the codeword that was found for w, or w as it came
+abbrev pub foundOr : List ℕ → Option (List ℕ) → List ℕ
+foundOr w none = w
+foundOr w (some c) = c
+
+-- whether one was found
+abbrev pub isFound : Option (List ℕ) → Bool
+isFound none = false
+isFound (some c) = true

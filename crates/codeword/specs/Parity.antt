@@ -1,5 +1,5 @@
 -- Parity (Annex A, Annex C.7): J bytes that make a codeword of the word in which they stand. For two places in a row
--- with J = 2, and for four in a row with J = 4, there are such bytes (`ParityExists`) and only one choice of them (`ParityLaws`).
+-- with J = 2, and for four in a row with J = 4, there are such bytes (Parity/Exists) and only one choice of them (Parity/One).
 -- Assumes nothing.
 use mathlib.Core.Path.{_≡_}
 use mathlib.Core.List.{List}

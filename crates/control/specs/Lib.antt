@@ -4,4 +4,6 @@ pub mod Channels
 -- the fields as numbers
 pub mod Values
 -- the fields in bytes
+pub mod FieldBytes
+-- what else the code goes by
 pub mod Inner

@@ -3,7 +3,7 @@ ghost use mathlib.Core.Path.{_≡_};
 ghost use mathlib.Core.List.{_∷_};
 ghost use Prim.Native.Nat.{_/_, _%_, _^_, _<_};
 ghost use Rattle.control.specs.Channels.{itemFields};
-ghost use Rattle.control.specs.Inner.FieldBytes.{dataBytes};
+ghost use Rattle.control.specs.FieldBytes.{dataBytes};
 use control::Item;
 use control::QData;
 use control_time::ControlTime;

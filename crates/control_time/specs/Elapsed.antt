@@ -3,7 +3,7 @@
 -- Assumes nothing.
 use mathlib.Core.Bool.{Bool, _&&_}
 use Prim.Native.Nat.{ℕ, _+_, _*_}
-use Rattle.digits.specs.Digits.{decimal, twoDigits}
+use Rattle.digits.specs.Digits.{valueOfDigits, twoDigits}
 use Rattle.control_time.specs.declared.ControlTime.{ControlTime}
 pub mod One
 
@@ -13,4 +13,4 @@ inRange t = twoDigits 99 (t .0) && (twoDigits 59 (t .1) && twoDigits 74 (t .2))
 
 -- the time in 75ths of a second
 unfoldable pub elapsed : ControlTime → ℕ
-elapsed t = (decimal (t .0) * 60 + decimal (t .1)) * 75 + decimal (t .2)
+elapsed t = (valueOfDigits (t .0) * 60 + valueOfDigits (t .1)) * 75 + valueOfDigits (t .2)

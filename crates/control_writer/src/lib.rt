@@ -6,7 +6,7 @@ ghost use lib.ListN.{length};
 ghost use Rattle.outcome.specs.Say.{outcome};
 ghost use Rattle.bits.specs.Bits.{unpack};
 ghost use Rattle.control.specs.Channels.{controlField, qMode};
-ghost use Rattle.control.specs.Inner.FieldBytes.{dataBytes};
+ghost use Rattle.control.specs.FieldBytes.{dataBytes};
 ghost use Rattle.control_writer.specs.Inner.Coded.{coded};
 ghost use Rattle.control_writer.specs.Writing.{sayOf, writing};
 use control::Control;

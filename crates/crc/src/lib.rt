@@ -5,12 +5,15 @@ ghost use Rattle.bits.specs.Bits.{bitsOf, unpack, pack};
 ghost use Rattle.crc.specs.Crc.{crc};
 ghost use Rattle.crc.specs.Inner.Register.{step, steps};
 
+// The generating polynomial without x^16, the coefficient of x^15 the most significant bit (22.3.6).
+const LOWER: u16 = 0x1021;
+
 // One line of the division, with the remainder's 16 coefficients as a number.
 fn bring(r: u16, c: u8) -> u16
     requires { ⌜ c < 2 ⌝ }
     ensures { λ s. ⌜ s ≡ step r c ⌝ }
 {
-    (r % 32768 * 2 + (c as u16)) ^ (r / 32768 * 0x1021)
+    (r % 32768 * 2 + (c as u16)) ^ (r / 32768 * LOWER)
 }
 
 // Eight lines, for the bits of a byte, the most significant first.

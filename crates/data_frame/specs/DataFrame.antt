@@ -58,8 +58,8 @@ abbrev pub bitOf : ℕ → ℕ → ℕ
 bitOf n first = first / 2 ^ (n - 24) % 2
 
 -- the bits that "shall be set to ZERO", b31, b30, b28 and b25, are so
-unfoldable pub unreserved : ℕ → Bool
-unreserved first = eqb (bitOf 31 first) 0 && (eqb (bitOf 30 first) 0 && (eqb (bitOf 28 first) 0 && eqb (bitOf 25 first) 0))
+unfoldable pub reservedAreZero : ℕ → Bool
+reservedAreZero first = eqb (bitOf 31 first) 0 && (eqb (bitOf 30 first) 0 && (eqb (bitOf 28 first) 0 && eqb (bitOf 25 first) 0))
 
 unfoldable pub fieldsOf : List ℕ → Fields
 fieldsOf frame =
@@ -90,3 +90,22 @@ values f =
     ∷ f .number .1
     ∷ f .number .2
     ∷ copyright f
+
+-- and the fields of such numbers
+abbrev pub fieldsFrom : List ℕ → Fields
+fieldsFrom v =
+    record {
+      reflectivity = eqb (getD v 0 0) 1;
+      zone = record { 0 = eqb (getD v 1 0) 1; 1 = eqb (getD v 2 0) 1 };
+      layer = eqb (getD v 3 0) 1;
+      number = record { 0 = getD v 4 0; 1 = getD v 5 0; 2 = getD v 6 0 };
+      copyright =
+          record {
+            0 = getD v 7 0;
+            1 = getD v 8 0;
+            2 = getD v 9 0;
+            3 = getD v 10 0;
+            4 = getD v 11 0;
+            5 = getD v 12 0;
+          };
+    }

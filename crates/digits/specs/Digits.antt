@@ -6,9 +6,9 @@ use lib.Dec.{ltb, leb}
 pub mod One
 
 -- the number that the digits make
-abbrev pub decimal : ℕ → ℕ
-decimal b = b / 16 * 10 + b % 16
+abbrev pub valueOfDigits : ℕ → ℕ
+valueOfDigits b = b / 16 * 10 + b % 16
 
 -- both digits are decimal and make a number of at most top
 unfoldable pub twoDigits : ℕ → ℕ → Bool
-twoDigits top b = ltb (b / 16) 10 && (ltb (b % 16) 10 && leb (decimal b) top)
+twoDigits top b = ltb (b / 16) 10 && (ltb (b % 16) 10 && leb (valueOfDigits b) top)

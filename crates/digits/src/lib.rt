@@ -1,10 +1,10 @@
 // Two decimal digits in a byte (clauses 14.2 and 22.3.3), the tens in its upper half.
 ghost use mathlib.Core.Path.{_≡_};
-ghost use Rattle.digits.specs.Digits.{decimal, twoDigits};
+ghost use Rattle.digits.specs.Digits.{valueOfDigits, twoDigits};
 
 // The number that the digits make.
 pub fn value(b: u8) -> u32
-    ensures { λ r. ⌜ r ≡ decimal b ⌝ }
+    ensures { λ r. ⌜ r ≡ valueOfDigits b ⌝ }
 {
     let tens = b / 16;
     let ones = b % 16;

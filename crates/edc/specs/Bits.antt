@@ -5,7 +5,7 @@ use Prim.Native.Nat.{ℕ, zero, suc, _+_, _*_, _/_, _%_}
 use lib.ListN.{take, drop}
 pub mod Numbers
 
--- n bits of a numberLowFirst, the least significant first
+-- n bits of a number, the least significant first
 abbrev pub bitsLowFirst : ℕ → ℕ → List ℕ
 bitsLowFirst zero b = []
 bitsLowFirst (suc n) b = b % 2 ∷ bitsLowFirst n (b / 2)
@@ -15,7 +15,7 @@ abbrev pub bits : List ℕ → List ℕ
 bits [] = []
 bits (b ∷ bytes) = bitsLowFirst 8 b ++ bits bytes
 
--- the numberLowFirst that has these bits, the least significant first
+-- the number that has these bits, the least significant first
 unfoldable pub numberLowFirst : List ℕ → ℕ
 numberLowFirst [] = 0
 numberLowFirst (c ∷ cs) = c + numberLowFirst cs * 2

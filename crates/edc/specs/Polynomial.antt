@@ -8,8 +8,7 @@ pub mod Divisor
 
 -- x^32 + x^31 + x^16 + x^15 + x^4 + x^3 + x + 1
 unfoldable pub divisor : List ℕ
-divisor =
-    1 ∷ 1 ∷ 0 ∷ 0 ∷ 0 ∷ 0 ∷ 0 ∷ 0 ∷ 0 ∷ 0 ∷ 0 ∷ 0 ∷ 0 ∷ 0 ∷ 0 ∷ 0 ∷ 1 ∷ 1 ∷ 0 ∷ 0 ∷ 0 ∷ 0 ∷ 0 ∷ 0 ∷ 0 ∷ 0 ∷ 0 ∷ 0 ∷ 1 ∷ 1 ∷ 0 ∷ 1 ∷ 1 ∷ []
+divisor = powers 33 (32 ∷ 31 ∷ 16 ∷ 15 ∷ 4 ∷ 3 ∷ 1 ∷ 0 ∷ [])
 
 -- its factors as clause 14.3 has them, x^16 + x^15 + x^2 + 1 and x^16 + x^2 + x + 1
 abbrev pub factor₁ : List ℕ

@@ -1,5 +1,5 @@
--- The division as a register does it: coefficients in one numberLowFirst, the first in the lowest bit, and each line of the division drops
--- that bit. It is linear in the numberLowFirst, so that the lines of a whole byte depend on one table entry.
+-- The division as a register does it: coefficients in one number, the first in the lowest bit, and each line of the division drops
+-- that bit. It is linear in the number, so that the lines of a whole byte depend on one table entry.
 -- Assumes nothing.
 use mathlib.Core.List.{List}
 use Prim.Native.Nat.{ℕ, zero, suc, _+_, _*_, _/_, _%_}

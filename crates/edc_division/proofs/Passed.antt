@@ -22,7 +22,7 @@ use Rattle.edc.specs.Rows.{rows}
 use Rattle.edc.specs.Rows.Entries.{advance-entries, byte-entry}
 use Rattle.edc.specs.Edc.Division.{remainder-append, remainder-word}
 
--- ---- one and four bytes as a numberLowFirst
+-- ---- one and four bytes as a number
 
 number-none : numberLowFirst [] ≡ 0
 unfolding numberLowFirst

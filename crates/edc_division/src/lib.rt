@@ -26,7 +26,7 @@ fn divide(t: &[u32; 1024], bytes: &[u8]) -> u32
     r
 }
 
-// The remainder's 32 coefficients as a numberLowFirst, that of the highest power in the lowest bit.
+// The remainder's 32 coefficients as a number, that of the highest power in the lowest bit.
 pub fn remainder(bytes: &[u8]) -> u32
     ensures { λ r. ⌜ r ≡ numberLowFirst (remainder (bits (now (bytes .entry)))) ⌝ }
 {

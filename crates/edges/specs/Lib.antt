@@ -1,2 +1,2 @@
--- document 02, §5: what a reader finds at its place
+-- document 02, §5: what stands at an edge of a capture
 pub mod Steps

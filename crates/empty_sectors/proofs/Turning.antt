@@ -8,15 +8,15 @@ use native.Mathlib.Omega.{arith}
 use types.Run.{OneOf, miss}
 use denote.Enum.Declared as enum
 use lib.ListN.{length, length-append}
-use Rattle.reading.specs.declared.Filled.{Filled}
-use Rattle.reading.specs.declared.Read.{Read}
-use Rattle.reading.specs.declared.Read.the-variants.{Failed, End, More}
-use Rattle.reading.specs.Reading.{StoppedAt, Fills}
-use Rattle.reading.proofs.Read as read
-use Rattle.emptiness.specs.declared.Found.{Found}
+use Rattle.input_reading.specs.declared.Filled.{Filled}
+use Rattle.input_reading.specs.declared.Read.{Read}
+use Rattle.input_reading.specs.declared.Read.the-variants.{Failed, End, More}
+use Rattle.input_reading.specs.Reading.{StoppedAt, Fills}
+use Rattle.input_reading.proofs.Read as read
+use Rattle.empty_lines.specs.declared.Found.{Found}
 use Rattle.empty_sectors.specs.declared.Stand.{Stand}
 use Rattle.empty_sectors.specs.declared.Stand.the-variants.{Going, Stopped, WriteFailed}
-use Rattle.emptiness.specs.Listed.{foundIn, lineOf}
+use Rattle.empty_lines.specs.Listed.{foundIn, lineOf}
 use Rattle.empty_sectors.specs.Run.{afterLine, Turn, tells, stops, unwritten, begins, goes, Counted, Reached}
 use Rattle.empty_sectors.specs.Inner.Turns.{Sayable, Turned}
 use Rattle.empty_sectors.proofs.Stand as stand

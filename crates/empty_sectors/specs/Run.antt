@@ -1,16 +1,16 @@
--- The run of the program: what each turn reads and prints, and where it ends.
+-- The run of the program that lists empty Sectors (document 02, §13): what each turn reads and prints, and where it ends.
 -- Assumes nothing.
 use mathlib.Core.Path.{_≡_}
 use mathlib.Core.Bool.{Bool, cond}
 use mathlib.Core.List.{List, [], _∷_, _++_}
 use Prim.Native.Nat.{ℕ, _<_}
 use lib.ListN.{length, take}
-use Rattle.tally.specs.Counting.{largest}
-use Rattle.reading.specs.declared.Filled.{Filled}
-use Rattle.reading.specs.Reading.{Fills}
+use Rattle.fate_counts.specs.Counting.{largest}
+use Rattle.input_reading.specs.declared.Filled.{Filled}
+use Rattle.input_reading.specs.Reading.{Fills}
 use Rattle.empty_sectors.specs.declared.Stand.{Stand}
 use Rattle.empty_sectors.specs.declared.Stand.the-variants.{Going, Stopped, WriteFailed}
-use Rattle.emptiness.specs.Listed.{foundIn, lineOf}
+use Rattle.empty_lines.specs.Listed.{foundIn, lineOf}
 pub mod Printed
 
 -- after a line: the program goes on if all of it went out

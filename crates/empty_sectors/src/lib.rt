@@ -1,14 +1,14 @@
 // The addresses of a dump's empty Sectors (document 02, §13), from standard input to standard output. What one read means stands in
-// `reading`, which Sector has a line and every character of it in `emptiness`.
+// `input_reading`, which Sector has a line and every character of it in `empty_lines`.
 ghost use mathlib.Core.Path.{_≡_};
 ghost use lib.ListN.{length};
 ghost use Rattle.empty_sectors.specs.Run.{afterLine, Ended};
 ghost use Rattle.empty_sectors.specs.Inner.Turns.{Sayable, Turned};
-use emptiness::Found;
+use empty_lines::Found;
+use input_reading::Filled;
+use input_reading::Read;
 use libc::STDERR_FILENO;
 use libc::STDOUT_FILENO;
-use reading::Filled;
-use reading::Read;
 
 // Where the program stands: between two Sectors; ended by a read that brought nothing, with so many bytes of a Sector before it; or ended by
 // a write that failed.
@@ -41,11 +41,11 @@ fn tell(sector: &[u8]) -> Stand
     requires { ⌜ length (now sector) ≡ 2352 ⌝ }
     ensures { λ r. ⌜ Turned r ⌝ }
 {
-    let found = emptiness::find(sector);
+    let found = empty_lines::find(sector);
     let Found::Empty(time) = found else {
         return say(b"");
     };
-    let line = emptiness::address_line(time);
+    let line = empty_lines::address_line(time);
     say(&line)
 }
 
@@ -54,7 +54,7 @@ fn turn(sector: &mut [u8]) -> Stand
     requires { ⌜ length (now sector) ≡ 2352 ⌝ }
     ensures { λ r. ⌜ Turned r ⌝ }
 {
-    let filled = reading::fill(sector);
+    let filled = input_reading::fill(sector);
     let last = filled.last;
     let Read::More(_) = last else {
         return Stand::Stopped(filled);

@@ -1,5 +1,6 @@
 -- The codeword of four sums that agrees with a word on its unmarked bytes (document 02, §7), as a function of the marks and the word. Nothing is known of it
--- but what its type says: it is some c with `Agrees 4 m w c`, or none where there is no such c. With at most four marks there is at most one (`agrees-one`).
+-- but what the type of `decision` says: it is some c with `Agrees 4 m w c`, or none where there is no such c. In a word of at most 255 bytes with at most four marks
+-- there is at most one (`agrees-one`).
 -- Assumes nothing.
 use mathlib.Core.List.{List}
 use mathlib.Core.Option.{Option, none, some}
@@ -17,8 +18,3 @@ found (no n) = none
 
 pub agreeing : List ℕ → List ℕ → Option (List ℕ)
 agreeing m w = found (decision m w)
-
--- what is handed on of a word: the codeword that was found for it, or the word as it came
-abbrev pub handedOn : List ℕ → Option (List ℕ) → List ℕ
-handedOn w (some c) = c
-handedOn w none = w

@@ -1,17 +1,16 @@
 // Codewords: the verdict on a word, parity, and the filling of lost bytes.
 ghost use mathlib.Core.Path.{_≡_};
-ghost use mathlib.Core.List.{_++_};
+ghost use mathlib.Core.List.{_∷_, _++_};
 ghost use lib.ListN.{take, drop};
 ghost use Rattle.codeword.specs.Nearest.{verdict};
 ghost use Rattle.codeword.specs.Parity.{Parity};
 ghost use Rattle.filling.specs.Fill.{Fills};
-ghost use Rattle.told.specs.Told.{Tells, Told};
-ghost use Rattle.exports.specs.Verdicts.{sayOf};
+ghost use Rattle.exports.specs.Verdicts.{toldOf};
 use codeword::Verdict;
 use told::tell_two;
 
 fn tell(v: Verdict, change: &mut [u64; 2]) -> u8
-    ensures { λ r. ⌜ Tells 2 (sayOf v) r (now (change .exit)) ⌝ }
+    ensures { λ r. ⌜ r ∷ now (change .exit) ≡ toldOf v ⌝ }
 {
     match v {
         Verdict::Clean => tell_two(0, 0, 0, change),
@@ -23,7 +22,7 @@ fn tell(v: Verdict, change: &mut [u64; 2]) -> u8
 // A word of P or Q.
 #[no_mangle]
 pub extern "C" fn road_verdict_of_two(w: &[u8], change: &mut [u64; 2]) -> u8
-    ensures { λ r. ⌜ Told 2 (λ say. say ≡ sayOf (verdict 2 (now (w .entry)))) r (now (change .exit)) ⌝ }
+    ensures { λ r. ⌜ r ∷ now (change .exit) ≡ toldOf (verdict 2 (now (w .entry))) ⌝ }
 {
     tell(verdicts::verdict_of_two(w), change)
 }
@@ -31,7 +30,7 @@ pub extern "C" fn road_verdict_of_two(w: &[u8], change: &mut [u64; 2]) -> u8
 // A word of C1 or C2.
 #[no_mangle]
 pub extern "C" fn road_verdict_of_four(w: &[u8], change: &mut [u64; 2]) -> u8
-    ensures { λ r. ⌜ Told 2 (λ say. say ≡ sayOf (verdict 4 (now (w .entry)))) r (now (change .exit)) ⌝ }
+    ensures { λ r. ⌜ r ∷ now (change .exit) ≡ toldOf (verdict 4 (now (w .entry))) ⌝ }
 {
     tell(quick_verdicts::verdict_of_four(w), change)
 }

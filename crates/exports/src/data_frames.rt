@@ -2,7 +2,7 @@
 ghost use mathlib.Core.Path.{_≡_};
 ghost use mathlib.Core.List.{[]};
 ghost use Rattle.outcome.specs.Say.{outcome};
-ghost use Rattle.data_frame.specs.DataFrame.Values.{fieldsFrom};
+ghost use Rattle.data_frame.specs.DataFrame.{fieldsFrom};
 ghost use Rattle.frame_reader.specs.Reading.{reading};
 ghost use Rattle.frame_writer.specs.Framing.{Frames};
 ghost use Rattle.carrying.specs.Carry.{Carries};
@@ -27,5 +27,5 @@ pub extern "C" fn road_write_frame(fields: &[u8; 13], main: &[u8], out: &mut [u8
 pub extern "C" fn road_carry(frames: &[u8], minute: u8, second: u8, frame: u8, out: &mut [u8]) -> u8
     ensures { λ r. ⌜ Told 0 (λ say. Carries (now (frames .entry)) (record { 0 = minute; 1 = second; 2 = frame }) (now (out .entry)) say (now (out .exit))) r [] ⌝ }
 {
-    frame_told::carry(frames, HeaderTime(minute, second, frame), out)
+    frame_told::carry(frames, HeaderTime::new(minute, second, frame), out)
 }

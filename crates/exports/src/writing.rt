@@ -29,5 +29,5 @@ pub extern "C" fn road_write(
 ) -> u8
     ensures { λ r. ⌜ Told 0 (λ say. Writes mode (record { 0 = minute; 1 = second; 2 = frame }) (now (user .entry)) (now (out .entry)) say (now (out .exit))) r [] ⌝ }
 {
-    tell(writer::write(mode, HeaderTime(minute, second, frame), user, out))
+    tell(writer::write(mode, HeaderTime::new(minute, second, frame), user, out))
 }

@@ -1,4 +1,4 @@
--- The codewords of a Sector that fail (Annex A; 14.5, 14.6): a parity's sums are not all 0.
+-- The codewords of a Sector that fail (Annex A; 14.5, 14.6): a codeword's sums are not all 0.
 -- Assumes nothing.
 use mathlib.Core.Bool.{Bool, not}
 use mathlib.Core.List.{List}

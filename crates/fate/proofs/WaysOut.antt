@@ -10,16 +10,16 @@ use Rattle.sector.specs.Layout.{timeOf}
 use Rattle.repair.specs.Repair.{sayOf}
 use Rattle.repair.specs.declared.Repaired.{Repaired}
 use Rattle.repair.specs.declared.Repaired.the-variants.{HandedOut}
-use Rattle.tally.specs.declared.Fate.the-variants as fates
+use Rattle.fate_counts.specs.declared.Fate.the-variants as fates
 use Rattle.fate.specs.Fated.{fateFrom}
 
-module _ (s : List ℕ) (a : Repaired) (t : HeaderTime) (p : t .0 ≡ getD s 12 0) (q : t .1 ≡ getD s 13 0) (r : t .2 ≡ getD s 14 0) (n : ℕ)
-    (e : a ≡ HandedOut n) where
+module _ (s : List ℕ) (a : Repaired) (x y z : ℕ) (p : x ≡ getD s 12 0) (q : y ≡ getD s 13 0) (r : z ≡ getD s 14 0)
+    (t : HeaderTime) (made : t ≡ record { 0 = x; 1 = y; 2 = z }) (n : ℕ) (e : a ≡ HandedOut n) where
   time : t ≡ timeOf s
-  time = λ i. record { 0 = p i; 1 = q i; 2 = r i }
+  time = made ∙ (λ i. record { 0 = p i; 1 = q i; 2 = r i })
 
   answered : fateFrom (sayOf (HandedOut n)) s ≡ fateFrom (sayOf a) s
-  answered = ap (λ (y : Repaired). fateFrom (sayOf y) s) (sym e)
+  answered = ap (λ (b : Repaired). fateFrom (sayOf b) s) (sym e)
 
   pub on-clean : n ≡ 0 → fates.Clean t ≡ fateFrom (sayOf a) s
   on-clean m =

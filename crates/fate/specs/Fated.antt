@@ -8,8 +8,8 @@ use lib.Dec.{eqb}
 use Rattle.outcome.specs.Say.{Say, done, refused}
 use Rattle.sector.specs.Layout.{timeOf, zeros}
 use Rattle.repair.specs.Repair.{Repairs}
-use Rattle.tally.specs.declared.Fate.{Fate}
-use Rattle.tally.specs.declared.Fate.the-variants.{Clean, Repaired, Refused}
+use Rattle.fate_counts.specs.declared.Fate.{Fate}
+use Rattle.fate_counts.specs.declared.Fate.the-variants.{Clean, Repaired, Refused}
 pub mod One
 pub mod InBatch
 

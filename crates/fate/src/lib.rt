@@ -4,8 +4,8 @@ ghost use lib.ListN.{getD};
 ghost use Rattle.repair.specs.Repair.{sayOf};
 ghost use Rattle.fate.specs.Fated.{fateFrom};
 use address::HeaderTime;
+use fate_counts::Fate;
 use repair::Repaired;
-use tally::Fate;
 
 // The byte at a place, and 0 behind the end.
 fn byte_at(s: &[u8], i: usize) -> u8
@@ -22,7 +22,7 @@ pub fn fate_of(answer: Repaired, handed: &[u8]) -> Fate
         Repaired::HandedOut(changed) => {
             let minute = byte_at(handed, 12);
             let second = byte_at(handed, 13);
-            let time = HeaderTime(minute, second, byte_at(handed, 14));
+            let time = HeaderTime::new(minute, second, byte_at(handed, 14));
             if changed == 0 {
                 return Fate::Clean(time);
             }

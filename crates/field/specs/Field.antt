@@ -9,7 +9,7 @@ pub mod Product
 
 -- times α: double; where bit 7 was set, take the polynomial, (11D), off
 unfoldable pub timesAlpha : ℕ → ℕ
-timesAlpha x = bitXor (x * 2) (x / 128 % 2 * 285)
+timesAlpha x = bitXor (x * 2) (x / 128 % 2 * 0x11D)
 
 -- α^n
 unfoldable pub power : ℕ → ℕ

@@ -18,8 +18,8 @@ use Rattle.bits.specs.Bits.{bitsOf}
 use Rattle.words.specs.Words.{words, wordOf, sync0, sync1}
 use Rattle.merging.specs.Automaton.{step, steps, live, shown}
 use Rattle.merging.specs.Chosen.{SoFar, after, withHeader, m100, m010, m001, m000}
-use Rattle.merging.specs.Rule.{header, headers, allowed}
-use Rattle.section_state.specs.Carried.{beginning}
+use Rattle.merging.specs.Rule.{syncHeaderBits, headers, allowed}
+use Rattle.section_state.specs.Tallies.{beginning}
 use Rattle.section_writer.specs.State.{fresh}
 
 -- a figure: what the definitions give, and what document 01 says
@@ -37,13 +37,13 @@ changed = set (replicate 2352 0) 100 1
 
 -- whether these Merging bits may stand between a Sync Header and SYNC 1
 abbrev afterHeader : List ℕ → Bool
-afterHeader m = allowed header (bitsOf 14 sync1) m
+afterHeader m = allowed syncHeaderBits (bitsOf 14 sync1) m
 
 -- whether the word of this byte, wherever it can stand, allows the one before a Sync Header and not the other; s is all that the bits before can show
 abbrev onlyBefore : ℕ → List ℕ → List ℕ → ℕ → Bool
 onlyBefore b one other s =
     cond (live (steps s (bitsOf 14 (wordOf b))))
-    (allowed (shown s ++ bitsOf 14 (wordOf b)) header one && not (allowed (shown s ++ bitsOf 14 (wordOf b)) header other)) true
+    (allowed (shown s ++ bitsOf 14 (wordOf b)) syncHeaderBits one && not (allowed (shown s ++ bitsOf 14 (wordOf b)) syncHeaderBits other)) true
 
 -- the start of a disc, and what then stands there: the first Sync Header; 000 and SYNC 0 behind it
 abbrev start : SoFar

@@ -1,1 +1,2 @@
+-- document 01, "Figures to meet"
 pub mod Figures

@@ -1,1 +1,2 @@
+-- document 02, §7: lost bytes filled
 pub mod Fill

@@ -7,7 +7,7 @@ ghost use Rattle.erasures.specs.Errors.{filling};
 ghost use Rattle.filling.specs.Fill.{Fills};
 use generator::is_codeword;
 use lost_errors::add_errors;
-use marks::marked;
+use mark_counts::count_marked;
 use word_sums::four_sums;
 
 // The longest word with which only one codeword can agree: below α^255 no two powers of α are equal.
@@ -42,7 +42,7 @@ pub fn fill(marks: &[u8], word: &mut [u8]) -> bool
     if LONGEST < word.len() {
         return false;
     }
-    if MOST < marked(marks) {
+    if MOST < count_marked(marks) {
         return false;
     }
     fill_word(marks, word)

@@ -7,7 +7,7 @@ ghost use Rattle.alignment.specs.Found.{place, syncStands, nOf, frameOf, wholeF
 ghost use Rattle.finding.specs.FindSay.{sayOf};
 
 // The outgoing bytes: 27 Sectors, as many as 2,730 frames can hold whole.
-pub const ROOM: usize = 63504;
+const ROOM: usize = 63504;
 
 // What `find` answers: the frame, n, and how many Sectors are whole from there on; or why there is none.
 pub enum Found {

@@ -1,1 +1,2 @@
+-- four bytes as one number
 pub mod FourBytes

@@ -262,7 +262,7 @@ const TABLE: [u32; 256] = [
 ];
 
 // The whole table, fetched once a call.
-pub fn table() -> [u32; 256]
+pub(crate) fn table() -> [u32; 256]
     ensures { λ r. ⌜ r ≡ rows ⌝ }
 {
     TABLE

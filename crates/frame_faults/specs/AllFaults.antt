@@ -1,11 +1,9 @@
 -- The faults of Data Frames in a row (document 02, §14).
 -- Assumes nothing.
-use mathlib.Core.Bool.{cond}
-use mathlib.Core.List.{List, []}
+use mathlib.Core.List.{List}
 use Prim.Native.Nat.{ℕ, zero, suc}
-use lib.Dec.{eqb}
 use lib.ListN.{take, drop}
-use Rattle.outcome.specs.Say.{Say, refused}
+use Rattle.outcome.specs.Say.{Say}
 use Rattle.frame_reader.specs.Reading.{faults}
 pub mod Decides
 
@@ -13,7 +11,3 @@ pub mod Decides
 abbrev pub allFaults : ℕ → List ℕ → Say → Say
 allFaults zero w rest = rest
 allFaults (suc k) w rest = faults (take 2064 w) (allFaults k (drop 2064 w) rest)
-
--- the refusal of a frame with this number
-abbrev pub refusalOf : ℕ → Say
-refusalOf n = cond (eqb n 28) (refused 28 []) (cond (eqb n 29) (refused 29 []) (refused 30 []))

@@ -15,7 +15,7 @@ use Rattle.codeword.specs.Nearest.{isCodeword}
 use Rattle.division.specs.Polynomial.{isZero}
 use Rattle.frame_edc.specs.FrameEdc.{remainder}
 use Rattle.data_frame.specs.declared.Fields.{Fields}
-use Rattle.data_frame.specs.DataFrame.{mainData, unreserved, fieldsOf, values}
+use Rattle.data_frame.specs.DataFrame.{mainData, reservedAreZero, fieldsOf, values}
 use Rattle.frame_reader.specs.Reading.{reading}
 use Rattle.frame_reader.specs.Reading.WaysOut as law
 
@@ -31,7 +31,7 @@ module _ (frame old new : List ℕ) where
       pub on-edc : not b ≡ true → new ≡ cleared 2048 old → outcome (refused 29 []) new ≡ reading frame old
       on-edc n = law.on-edc frame old new l m (sym ha ∙ not-false a na) (sym hb ∙ not-true b n)
 
-      module _ (nb : not b ≡ false) (u : Bool) (hu : u ≡ unreserved (getD frame 0 0)) where
+      module _ (nb : not b ≡ false) (u : Bool) (hu : u ≡ reservedAreZero (getD frame 0 0)) where
         pub on-reserved : not u ≡ true → new ≡ cleared 2048 old → outcome (refused 30 []) new ≡ reading frame old
         on-reserved n = law.on-reserved frame old new l m (sym ha ∙ not-false a na) (sym hb ∙ not-false b nb) (sym hu ∙ not-true u n)
 

@@ -8,7 +8,7 @@ use Rattle.outcome.specs.Say.{Say, done, refused, demand, oneThenTwo, Outcome, 
 use Rattle.codeword.specs.Nearest.{isCodeword}
 use Rattle.division.specs.Polynomial.{isZero}
 use Rattle.frame_edc.specs.FrameEdc.{remainder}
-use Rattle.data_frame.specs.DataFrame.{mainData, unreserved, fieldsOf, values}
+use Rattle.data_frame.specs.DataFrame.{mainData, reservedAreZero, fieldsOf, values}
 use Rattle.frame_reader.specs.declared.FrameRead.{FrameRead}
 use Rattle.frame_reader.specs.declared.FrameRead.the-variants.{Done, WrongIncoming, WrongOutgoing, WrongIdentification, WrongEdc, ReservedBit}
 pub mod WaysOut
@@ -18,7 +18,7 @@ pub mod Told
 -- what a frame of 2,064 bytes is refused for, in order: 28 identification code, 29 EDC, 30 reserved bit set. Where it is not, the rest decides.
 abbrev pub faults : List ℕ → Say → Say
 faults frame rest =
-    demand (isCodeword 2 (take 6 frame)) 28 (demand (isZero (remainder frame)) 29 (demand (unreserved (getD frame 0 0)) 30 rest))
+    demand (isCodeword 2 (take 6 frame)) 28 (demand (isZero (remainder frame)) 29 (demand (reservedAreZero (getD frame 0 0)) 30 rest))
 
 -- the order is 1, 2, 28, 29, 30; with a frame that is read come its fields
 abbrev pub says : List ℕ → List ℕ → Say

@@ -3,7 +3,7 @@ ghost use mathlib.Core.Path.{_≡_};
 ghost use lib.ListN.{length, take};
 ghost use Rattle.outcome.specs.Say.{outcome};
 ghost use Rattle.codeword.specs.Nearest.{isCodeword};
-ghost use Rattle.data_frame.specs.DataFrame.{unreserved, fieldsOf};
+ghost use Rattle.data_frame.specs.DataFrame.{reservedAreZero, fieldsOf};
 ghost use Rattle.frame_reader.specs.Reading.{reading, sayOf};
 use data_frame::Copyright;
 use data_frame::Fields;
@@ -33,8 +33,8 @@ fn is_identified(frame: &[u8]) -> bool
 }
 
 // Whether b31, b30, b28 and b25 are ZERO (16.1).
-fn is_unreserved(first: u8) -> bool
-    ensures { λ r. ⌜ r ≡ unreserved first ⌝ }
+fn reserved_are_zero(first: u8) -> bool
+    ensures { λ r. ⌜ r ≡ reservedAreZero first ⌝ }
 {
     if first / 128 % 2 != 0 {
         return false;
@@ -82,7 +82,7 @@ pub fn read_frame(frame: &[u8], main: &mut [u8]) -> FrameRead
         outcome::wipe(main, 2048);
         return FrameRead::WrongEdc;
     }
-    if !is_unreserved(frame[0]) {
+    if !reserved_are_zero(frame[0]) {
         outcome::wipe(main, 2048);
         return FrameRead::ReservedBit;
     }

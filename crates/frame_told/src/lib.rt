@@ -3,7 +3,7 @@ ghost use mathlib.Core.Path.{_≡_};
 ghost use mathlib.Core.List.{[]};
 ghost use Rattle.outcome.specs.Say.{outcome};
 ghost use Rattle.data_frame.specs.DataFrame.{bit, values};
-ghost use Rattle.data_frame.specs.DataFrame.Values.{fieldsFrom};
+ghost use Rattle.data_frame.specs.DataFrame.{fieldsFrom};
 ghost use Rattle.frame_reader.specs.Reading as reads;
 ghost use Rattle.frame_writer.specs.Framing as writes;
 ghost use Rattle.carrying.specs.Carry as carries;

@@ -1,4 +1,4 @@
-// The same of the powers 243 to 246, which are -12 to -9 since α^255 is 1.
+// What is left of each half of a byte times the powers 243 to 246 of the unknown; laid out as in up.rt. They are the powers -12 to -9, since α^255 is 1.
 pub const DOWN: [u32; 128] = [
     0x00000000,
     0xEACF3B1F,

@@ -13,7 +13,7 @@ use Rattle.merging.specs.Chosen.Better.{better-keeps}
 use Rattle.merging.specs.Automaton.{start22}
 use Rattle.merging.specs.Chosen.{beforeHeader, m100, m000}
 use Rattle.merging.specs.Dsv.{absolute}
-use Rattle.merging.specs.Rule.{header}
+use Rattle.merging.specs.Rule.{syncHeaderBits}
 use Rattle.traces.specs.declared.Tally.{Tally}
 use Rattle.header_choice.specs.declared.Tail.{Tail}
 use Rattle.traces.specs.declared.Choice.{Choice}
@@ -21,11 +21,11 @@ use Rattle.traces.specs.declared.Trace.{Trace}
 use Rattle.header_choice.specs.Inner.{HeaderStands}
 use Rattle.traces.specs.Better.{betterOf}
 use Rattle.header_choice.specs.HeaderChoice.{beforeNextHeader, chosenTail}
-use Rattle.states.specs.States.{headerAfterOne, headerAfterZeros}
+use Rattle.automaton_states.specs.States.{headerAfterOne, headerAfterZeros}
 use Rattle.traces.specs.Strokes.{spent}
 use Rattle.traces.specs.Traces.{tallyAfter, tallyDsv, Light, Fit}
 use Rattle.traces.specs.Better.Stands.{better-stands}
-use Rattle.states.specs.States.Right.{header-one, header-zeros}
+use Rattle.automaton_states.specs.States.Right.{header-one, header-zeros}
 use Rattle.traces.specs.Strokes.Right.{spent-is}
 
 -- the two candidates
@@ -36,8 +36,8 @@ abbrev pub withZeros : Trace → Choice
 withZeros t = record { bits = 0; after = record { run = headerAfterZeros (t .run); tally = spent (t .tally) 14 13 1 } }
 
 -- the tally after a Sync Header
-pub spent-header : (t : Tally) → Light t → spent t 11 13 1 ≡ tallyAfter t header
-spent-header t room = spent-is t header 11 13 1 room (omega arith) refl refl refl
+pub spent-header : (t : Tally) → Light t → spent t 11 13 1 ≡ tallyAfter t syncHeaderBits
+spent-header t room = spent-is t syncHeaderBits 11 13 1 room (omega arith) refl refl refl
 
 module _ (t : Trace) (fit : Fit t) where
   one-stands : HeaderStands t (withOne t) m100
@@ -46,7 +46,7 @@ module _ (t : Trace) (fit : Fit t) where
         bits-are = refl;
         small = omega arith;
         run-is = header-one (t .run) (fit .state);
-        dsv-is = ap (λ (x : Tally). absolute (x .plus) (x .minus)) (spent-is (t .tally) (m100 ++ header) 13 14 0 (fit .room) (omega arith) refl refl refl);
+        dsv-is = ap (λ (x : Tally). absolute (x .plus) (x .minus)) (spent-is (t .tally) (m100 ++ syncHeaderBits) 13 14 0 (fit .room) (omega arith) refl refl refl);
       }
 
   zeros-stand : HeaderStands t (withZeros t) m000
@@ -55,7 +55,7 @@ module _ (t : Trace) (fit : Fit t) where
         bits-are = refl;
         small = omega arith;
         run-is = header-zeros (t .run) (fit .state);
-        dsv-is = ap (λ (x : Tally). absolute (x .plus) (x .minus)) (spent-is (t .tally) (m000 ++ header) 14 13 1 (fit .room) (omega arith) refl refl refl);
+        dsv-is = ap (λ (x : Tally). absolute (x .plus) (x .minus)) (spent-is (t .tally) (m000 ++ syncHeaderBits) 14 13 1 (fit .room) (omega arith) refl refl refl);
       }
 
   pub header-chosen : HeaderStands t (betterOf (withOne t) (withZeros t)) (beforeNextHeader t)
@@ -63,7 +63,7 @@ module _ (t : Trace) (fit : Fit t) where
   header-chosen =
       let p = one-stands in
       let q = zeros-stand in
-      better-stands (HeaderStands t) (t .run) start22 (tallyDsv (t .tally) header) (withOne t) (withZeros t) m100 m000 p q (p .run-is) (q .run-is) (p .dsv-is) (q .dsv-is)
+      better-stands (HeaderStands t) (t .run) start22 (tallyDsv (t .tally) syncHeaderBits) (withOne t) (withZeros t) m100 m000 p q (p .run-is) (q .run-is) (p .dsv-is) (q .dsv-is)
 
 -- ---- the tally after the Merging bits alone
 

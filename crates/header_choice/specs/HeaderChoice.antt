@@ -7,7 +7,7 @@ use Prim.Native.Nat.{ℕ}
 use Rattle.bits.specs.Bits.{number}
 use Rattle.merging.specs.Automaton.{passes, start22, headed}
 use Rattle.merging.specs.Chosen.{beforeHeader}
-use Rattle.merging.specs.Rule.{header}
+use Rattle.merging.specs.Rule.{syncHeaderBits}
 use Rattle.traces.specs.declared.Tally.{Tally}
 use Rattle.traces.specs.declared.Trace.{Trace}
 use Rattle.traces.specs.Traces.{tallyAfter, tallyDsv, light, fits}
@@ -16,11 +16,11 @@ pub mod Digits
 
 -- the trace after a Sync Header
 unfoldable pub afterHeader : Tally → Trace
-afterHeader t = record { run = headed; tally = cond (light t) (tallyAfter t header) t }
+afterHeader t = record { run = headed; tally = cond (light t) (tallyAfter t syncHeaderBits) t }
 
 -- the Merging bits before a Sync Header: the automaton looks at its first 22 bits, since its 23rd is the ONE that makes it one
 abbrev pub beforeNextHeader : Trace → List ℕ
-beforeNextHeader t = beforeHeader (passes (t .run) start22) (tallyDsv (t .tally) header)
+beforeNextHeader t = beforeHeader (passes (t .run) start22) (tallyDsv (t .tally) syncHeaderBits)
 
 -- those as a number, and the tally after them
 unfoldable pub chosenTail : Trace → Tail

@@ -42,8 +42,8 @@ fn best(t: Trace) -> Choice
     ensures { λ r. ⌜ HeaderStands t r (beforeNextHeader t) ⌝ }
 {
     let tally = t.tally;
-    let first = states::header_after_one(t.run);
-    let second = states::header_after_zeros(t.run);
+    let first = automaton_states::header_after_one(t.run);
+    let second = automaton_states::header_after_zeros(t.run);
     let x = traces::spend(tally, 13, 14, 0);
     let y = traces::spend(tally, 14, 13, 1);
     let p = Trace {

@@ -90,19 +90,22 @@ module _ (s : List ℕ) where
       unfolding judging
       on-mode m = let d = sym hy ∙ not-false y ny in simp (eq-eqb (length s) 2352 l, d, lt-leb (modeOf s) 2 m)
 
-      module _ (m : modeOf s ≤ 2) (r : Bool) (hr : r ≡ inRange (timeOf s)) where
+      module _ (m : modeOf s ≤ 2) (t : HeaderTime) (ht : t ≡ timeOf s) (r : Bool) (hr : r ≡ inRange t) where
+        ranged : inRange (timeOf s) ≡ r
+        ranged = ap inRange (sym ht) ∙ sym hr
+
         pub on-address : not r ≡ true → refused 4 [] ≡ judging s
         unfolding judging
         on-address n =
             let d = sym hy ∙ not-false y ny in
-            let t = sym hr ∙ not-true r n in
-            simp (eq-eqb (length s) 2352 l, d, le-leb (modeOf s) 2 m, t)
+            let a = ranged ∙ not-true r n in
+            simp (eq-eqb (length s) 2352 l, d, le-leb (modeOf s) 2 m, a)
 
-        pub by-mode : not r ≡ false → (a : Say) → a ≡ byMode (modeOf s) s → a ≡ judging s
+        pub by-mode : not r ≡ false → (say : Say) → say ≡ byMode (modeOf s) s → say ≡ judging s
         unfolding judging
-        by-mode n a h =
+        by-mode n say h =
             let d = sym hy ∙ not-false y ny in
-            let t = sym hr ∙ not-false r n in
-            h ∙ simp (eq-eqb (length s) 2352 l, d, le-leb (modeOf s) 2 m, t)
+            let a = ranged ∙ not-false r n in
+            h ∙ simp (eq-eqb (length s) 2352 l, d, le-leb (modeOf s) 2 m, a)
 
 pub ruleset ways = (on-length, on-sync, on-mode, on-address, by-mode)

@@ -76,7 +76,7 @@ pub fn judge(s: &[u8]) -> Judged
     if 2 < mode {
         return Judged::UnknownMode;
     }
-    let time = HeaderTime(s[12], s[13], s[14]);
+    let time = HeaderTime::new(s[12], s[13], s[14]);
     if !time.in_range() {
         return Judged::WrongAddress;
     }

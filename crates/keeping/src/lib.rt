@@ -22,8 +22,8 @@ fn put_runs(capture: &[u8], list: &mut [u8]) -> usize
     let mut used: usize = 0;
     let mut i: usize = 0;
     while i < capture.len() / 2 {
-        let count = counts::count_at(capture, i);
-        let run = counts::ticks(last, count);
+        let count = edge_counts::count_at(capture, i);
+        let run = edge_counts::ticks(last, count);
         used = put_number(list, used, run);
         last = count;
         i += 1;
@@ -36,7 +36,7 @@ pub fn runs_of(capture: &[u8], list: &mut [u8]) -> Listed
     ensures { λ r. ⌜ outcome (sayOf r) (now (list .exit)) ≡ keeping (now (capture .entry)) (now (list .entry)) ⌝ }
 {
     outcome::wipe(list, 98304);
-    if !counts::is_capture(capture) {
+    if !edge_counts::is_capture(capture) {
         return Listed::WrongIncoming;
     }
     if list.len() != 98304 {

@@ -1,1 +1,2 @@
+-- two slices laid into a third
 pub mod Both

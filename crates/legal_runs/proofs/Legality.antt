@@ -13,7 +13,7 @@ use Rattle.outcome.specs.First.Found.{lt-or-le, found-first}
 use Rattle.captures.specs.Counts.{bitsIn, legal}
 use Rattle.edges.specs.declared.Step.{Step}
 use Rattle.edges.specs.declared.Step.the-variants.{Run, End}
-use Rattle.edges.specs.Steps.{pick, stepAt}
+use Rattle.edges.specs.Steps.{stepAt}
 use Rattle.replaying.specs.Replay.{firstIllegal}
 use Rattle.legal_runs.specs.EdgeBits.{runs, edgeBits}
 use Rattle.legal_runs.specs.EdgeBits.There.{runs-long, bits-there}
@@ -25,7 +25,7 @@ module _ (w : List ℕ) (i : ℕ) (s : Step) (e : s ≡ stepAt w i) where
   unfolding stepAt edgeBits
   end-bits f = go (ltb i (length (runs w))) (sym f ∙ e)
     where
-      go : (t : Bool) → End ≡ pick t (Run (getD (runs w) i 0)) End → 1 ≡ cond t (bitsIn (getD (runs w) i 0)) 1
+      go : (t : Bool) → End ≡ cond t (Run (getD (runs w) i 0)) End → 1 ≡ cond t (bitsIn (getD (runs w) i 0)) 1
       go true p = let z : _≡_ {A = ℕ} 0 1 = cc in absurd (omega arith)
       go false p = refl
 
@@ -33,7 +33,7 @@ module _ (w : List ℕ) (i : ℕ) (s : Step) (e : s ≡ stepAt w i) where
   unfolding stepAt edgeBits
   run-bits d f = go (ltb i (length (runs w))) (sym f ∙ e)
     where
-      go : (t : Bool) → Run d ≡ pick t (Run (getD (runs w) i 0)) End → (d + 4) / 8 ≡ cond t (bitsIn (getD (runs w) i 0)) 1
+      go : (t : Bool) → Run d ≡ cond t (Run (getD (runs w) i 0)) End → (d + 4) / 8 ≡ cond t (bitsIn (getD (runs w) i 0)) 1
       go true p = let q : d ≡ getD (runs w) i 0 = cc in ap bitsIn q
       go false p = let z : _≡_ {A = ℕ} 0 1 = cc in absurd (omega arith)
 

@@ -1,10 +1,9 @@
--- Three stages one after the other, their lines in one flat store, with a function before each.
+-- Three stages of delays one after the other (Annex C.1), their lines in one flat store, with a function before each: in writing the order of rows, C2 and C1.
 -- Assumes nothing.
 use Prim.Native.Nat.{ℕ, zero, suc, _+_}
 use mathlib.Core.List.{List, _++_}
 use lib.ListN.{take, drop, replicate}
 use Rattle.lines.specs.Delay.{rowsOut, rowsNext, total}
-use Rattle.lines.specs.Stream.{outAt}
 pub mod Streams
 pub mod Zeros
 pub mod Fresh
@@ -39,14 +38,3 @@ module _ (d₁ d₂ d₃ : List ℕ) (g₁ g₂ g₃ : List ℕ → List ℕ) wh
   unfoldable pub chainAt : (ℕ → List ℕ) → ℕ → List ℕ
   chainAt f zero = replicate (total d₁ + (total d₂ + total d₃)) 0
   chainAt f (suc n) = chainNext (chainAt f n) (f n)
-
-  -- the same as streams
-  abbrev pub stream₁ : (ℕ → List ℕ) → ℕ → List ℕ
-  stream₁ f n = outAt d₁ (λ m. g₁ (f m)) n
-
-  abbrev pub stream₂ : (ℕ → List ℕ) → ℕ → List ℕ
-  stream₂ f n = outAt d₂ (λ m. g₂ (stream₁ f m)) n
-
-  -- what the chain gives at step n
-  unfoldable pub chained : (ℕ → List ℕ) → ℕ → List ℕ
-  chained f n = outAt d₃ (λ m. g₃ (stream₂ f m)) n

@@ -1,4 +1,4 @@
--- Delay lines. A line of d bytes holds what came in the last d steps, the oldest first.
+-- Delay lines, of which the delay sections of CIRC are made (Annex C.3, C.5, C.8). A line of d bytes holds what came in the last d steps, the oldest first.
 -- Assumes nothing.
 use Prim.Native.Nat.{ℕ, _+_}
 use mathlib.Core.List.{List, [], _∷_, _++_}

@@ -1,4 +1,4 @@
--- The view over time: a stream is a function of the step, counted from 0.
+-- Delay lines (Annex C.3, C.5, C.8) over time: a stream is a function of the step, counted from 0.
 -- Assumes nothing.
 use Prim.Native.Nat.{ℕ, zero, suc}
 use mathlib.Core.List.{List}

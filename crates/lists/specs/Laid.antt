@@ -5,7 +5,6 @@ use mathlib.Core.List.{List}
 use Prim.Native.Nat.{ℕ, _+_, _<_, _≤_}
 use lib.ListN.{length, getD}
 pub mod Copied
-pub mod Behind
 
 -- t is s with q from place a on
 pub record Laid (a : ℕ) (q s t : List ℕ) : Type 0 where

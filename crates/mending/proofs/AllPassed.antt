@@ -8,12 +8,13 @@ use native.Mathlib.Omega.{arith}
 use lib.Dec.{T}
 use Rattle.outcome.specs.Table.{allBelow}
 use Rattle.outcome.specs.Table.Entries.{below, all-below, true-of}
-use Rattle.codeword.specs.Nearest.{nearest}
+use Rattle.codeword.specs.Nearest.{nearest, isFound}
 use Rattle.rspc.specs.declared.Parity.{Parity}
 use Rattle.rspc.specs.Either.{wordsOf, wordOf}
 use Rattle.rspc.specs.Columns.{columnOf, inColumn}
 use Rattle.rspc.specs.Columns.Turned.{column-lt, in-column-lt, word-of-column}
-use Rattle.rspc.specs.Pass.{isFound, handedOn, eachNear, Passed}
+use Rattle.rspc.specs.Pass.{afterPass, Passed}
+use Rattle.rspc.specs.PassInPlace.{eachNear}
 use Rattle.mending.proofs.Passing.{standing, Passing}
 
 -- tests that hold together are one
@@ -42,7 +43,7 @@ module _ (parity : Parity) {s t : List ℕ} {k : ℕ} {near : Bool} (p : Passing
           all-below (λ j. isFound (nearest 2 (standing parity s j))) (wordsOf parity)
           (λ j l. below (λ n. isFound (nearest 2 (wordOf parity s n))) (wordsOf parity) a (inColumn parity j) (in-column-lt parity j l))
 
-      handed : (n : ℕ) → n < wordsOf parity → wordOf parity t n ≡ handedOn (wordOf parity s n)
+      handed : (n : ℕ) → n < wordsOf parity → wordOf parity t n ≡ afterPass (wordOf parity s n)
       handed n l =
-          subst (λ (m : ℕ). wordOf parity t m ≡ handedOn (wordOf parity s m)) (word-of-column parity n l)
+          subst (λ (m : ℕ). wordOf parity t m ≡ afterPass (wordOf parity s m)) (word-of-column parity n l)
           (p .passed (columnOf parity n) (omega (arith, column-lt parity n l)))

@@ -8,7 +8,7 @@ use native.Mathlib.Omega.{arith}
 use lib.ListN.{length, getD, set, length-set}
 use lib.Seq.{ext-getD, getD-set-same, getD-set-other}
 use Rattle.codeword.specs.Code.{sum, sums}
-use Rattle.codeword.specs.Nearest.{nearest, mended}
+use Rattle.codeword.specs.Nearest.{nearest, mended, foundOr, isFound}
 use Rattle.codeword.specs.Fault.{fault, cure}
 use Rattle.codeword.specs.Fault.Decides.{nearest-by-sums}
 use Rattle.codeword.specs.declared.Fault.{Fault}
@@ -17,7 +17,7 @@ use Rattle.rspc.specs.declared.Parity.{Parity}
 use Rattle.rspc.specs.Either.{wordsOf, rowsOf, wordOf, placeOf}
 use Rattle.rspc.specs.Either.Where.{homeOf, rowIn, place-to, home-of, row-in}
 use Rattle.rspc.specs.Either.Bytewise.{end-le, word-long, word-at}
-use Rattle.rspc.specs.Pass.{foundOr, isFound, handedOn}
+use Rattle.rspc.specs.Pass.{afterPass}
 use Rattle.word_mending.specs.Mend.{explained}
 
 -- ---- one byte of one word set
@@ -73,7 +73,7 @@ found-by-fault parity s n =
 abbrev pub cured : List ℕ → Fault → List ℕ
 cured w f = foundOr w (mended w (cure w f))
 
-pub handed-by-fault : (parity : Parity) (s : List ℕ) (n : ℕ) → handedOn (wordOf parity s n) ≡ cured (wordOf parity s n) (faultOf parity s n)
+pub handed-by-fault : (parity : Parity) (s : List ℕ) (n : ℕ) → afterPass (wordOf parity s n) ≡ cured (wordOf parity s n) (faultOf parity s n)
 handed-by-fault parity s n =
     ap (foundOr (wordOf parity s n)) (nearest-by-sums 2 (wordOf parity s n) (omega arith))
     ∙ ap (λ (k : ℕ). cured (wordOf parity s n) (fault (sums 2 (wordOf parity s n)) k)) (word-long parity s n)

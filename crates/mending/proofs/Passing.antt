@@ -13,7 +13,7 @@ use lib.Seq.{take-set-le, drop-set-lt}
 use Rattle.outcome.specs.First.Found.{lt-or-le}
 use Rattle.outcome.specs.Table.{allBelow}
 use Rattle.codeword.specs.Code.{sum}
-use Rattle.codeword.specs.Nearest.{nearest}
+use Rattle.codeword.specs.Nearest.{nearest, isFound}
 use Rattle.codeword.specs.Fault.{fault}
 use Rattle.codeword.specs.Fault.Decides.{fault-inside}
 use Rattle.codeword.specs.declared.Fault.{Fault}
@@ -24,7 +24,7 @@ use Rattle.rspc.specs.Either.Where.{place-from, place-to}
 use Rattle.rspc.specs.Either.Bytewise.{word-at}
 use Rattle.rspc.specs.Columns.{columnOf, inColumn}
 use Rattle.rspc.specs.Columns.Turned.{in-column-lt, column-of-word}
-use Rattle.rspc.specs.Pass.{isFound, handedOn}
+use Rattle.rspc.specs.Pass.{afterPass}
 use Rattle.word_mending.specs.Mend.{explained, mendedAt}
 use Rattle.mending.specs.Inner.Mend.{SumsOf}
 use Rattle.mending.proofs.Mending.{set-word, set-other, faultOf, cured, found-by-fault, handed-by-fault}
@@ -40,7 +40,7 @@ pub record Passing (parity : Parity) (s : List ℕ) (k : ℕ) (near : Bool) (t :
   pub long : length t ≡ length s
   pub before : take 12 t ≡ take 12 s
   pub after : drop (endOf parity) t ≡ drop (endOf parity) s
-  pub passed : (j : ℕ) → j < k → standing parity t j ≡ handedOn (standing parity s j)
+  pub passed : (j : ℕ) → j < k → standing parity t j ≡ afterPass (standing parity s j)
   pub waiting : (j : ℕ) → k ≤ j → j < wordsOf parity → standing parity t j ≡ standing parity s j
   pub found : near ≡ allBelow (λ j. isFound (nearest 2 (standing parity s j))) k
 
@@ -85,13 +85,13 @@ module _ (parity : Parity) {s t : List ℕ} {k : ℕ} {near : Bool} (p : Passing
             found = count f q g;
           }
         where
-          at : (j : ℕ) → (j < k) ⊎ (k ≤ j) → j < suc k → standing parity t j ≡ handedOn (standing parity s j)
+          at : (j : ℕ) → (j < k) ⊎ (k ≤ j) → j < suc k → standing parity t j ≡ afterPass (standing parity s j)
           at j (inl a) l = p .passed j a
           at j (inr a) l =
               let e : j ≡ k = omega arith in
               ap (standing parity t) e ∙ same
               ∙ sym (handed-by-fault parity s (inColumn parity k) ∙ ap (cured (standing parity s k)) q ∙ c)
-              ∙ ap (λ (m : ℕ). handedOn (standing parity s m)) (sym e)
+              ∙ ap (λ (m : ℕ). afterPass (standing parity s m)) (sym e)
 
       go : (f : Fault) → faultOf parity s (inColumn parity k) ≡ f → ((i e : ℕ) → f ≡ At i e → i < rowsOf parity) → r ≡ explained f && near
           → Passing parity s (suc k) r (mendedAt parity t (inColumn parity k) f)
@@ -129,7 +129,7 @@ module _ (parity : Parity) {s t : List ℕ} {k : ℕ} {near : Bool} (p : Passing
               set-other parity t (inColumn parity k) i v long hk hi (inColumn parity j) (in-column-lt parity j b)
               (λ z. d (sym (column-of-word parity j b) ∙ ap (columnOf parity) z ∙ column-of-word parity k h))
 
-          at : (j : ℕ) → (j < k) ⊎ (k ≤ j) → j < suc k → standing parity (set t place v) j ≡ handedOn (standing parity s j)
+          at : (j : ℕ) → (j < k) ⊎ (k ≤ j) → j < suc k → standing parity (set t place v) j ≡ afterPass (standing parity s j)
           at j (inl a) b = other j (omega arith) (λ z. omega arith) ∙ p .passed j a
           at j (inr a) b =
               let d : j ≡ k = omega arith in
@@ -138,7 +138,7 @@ module _ (parity : Parity) {s t : List ℕ} {k : ℕ} {near : Bool} (p : Passing
               ∙ ap (λ (x : ℕ). set (standing parity t k) i (bitXor x e)) (sym (word-at parity t (inColumn parity k) i hi))
               ∙ ap (λ (w : List ℕ). set w i (bitXor (getD w i 0) e)) same
               ∙ sym (handed-by-fault parity s (inColumn parity k) ∙ ap (cured (standing parity s k)) q)
-              ∙ ap (λ (m : ℕ). handedOn (standing parity s m)) (sym d)
+              ∙ ap (λ (m : ℕ). afterPass (standing parity s m)) (sym d)
 
   -- and with what `mend` says of it, given its sums
   pub passing-more : {s0 s1 : List ℕ} → SumsOf parity s s0 s1 → k < wordsOf parity → (r : Bool) (t′ : List ℕ)

@@ -2,7 +2,8 @@
 // their sums are made in one sweep over the rows.
 ghost use mathlib.Core.Path.{_≡_};
 ghost use lib.ListN.{length};
-ghost use Rattle.rspc.specs.Pass.{eachNear, Passed, Pass};
+ghost use Rattle.rspc.specs.Pass.{Passed};
+ghost use Rattle.rspc.specs.PassInPlace.{eachNear, Pass};
 ghost use Rattle.mending.specs.Inner.Mend.{SumsOf};
 use rspc::Parity;
 use word_mending::mend;

@@ -1,28 +1,27 @@
--- Which of the allowed Merging bits are chosen (document 01, "Channel bits"): those with the smallest absolute DSV after the word or header that
--- follows; of equals, one with a ONE goes before 000, and otherwise the order is 100, 010, 001.
+-- Which of the allowed Merging bits are chosen (Annex E; document 01, "Channel bits"): those with the smallest absolute DSV after the word or Sync
+-- Header that follows; of equals, one with a ONE goes before 000, and otherwise the order is 100, 010, 001.
 -- Assumes nothing.
-use mathlib.Core.Path.{_≡_}
 use mathlib.Core.Bool.{Bool, cond}
 use mathlib.Core.List.{List, [], _∷_, _++_}
-use Prim.Native.Nat.{ℕ, _+_, _≤_, _<_}
-use lib.Dec.{T, ltb}
-use lib.ListN.{length, getD}
-use Rattle.merging.specs.Rule.{header, allowed}
+use Prim.Native.Nat.{ℕ, _+_}
+use lib.Dec.{ltb}
+use Rattle.merging.specs.Rule.{syncHeaderBits, allowed}
 use Rattle.merging.specs.Dsv.{levelAfter, ups, downs, absolute}
+pub mod One
 pub mod Fold
 pub mod Stands
 pub mod Behind
 pub mod Better
 pub mod ThreeBits
 
--- what is written: the bits of the Section so far, the level after them, and how many bits there ever were at level +1 and at -1
+-- what is written: the bits of the Section so far, the level after them, and two counts whose difference is the DSV
 pub record SoFar : Type 0 where
   pub bits : List ℕ
   pub level : ℕ
   pub plus : ℕ
   pub minus : ℕ
 
--- more bits
+-- more bits: the counts grow by those at level +1 and by those at -1
 abbrev pub after : SoFar → List ℕ → SoFar
 after w bs =
     record {
@@ -49,25 +48,8 @@ m001 = 0 ∷ 0 ∷ 1 ∷ []
 abbrev pub m000 : List ℕ
 m000 = 0 ∷ 0 ∷ 0 ∷ []
 
--- all that may stand before a word, in document 01's order of preference
-abbrev pub forWord : List (List ℕ)
-forWord = m100 ∷ m010 ∷ m001 ∷ m000 ∷ []
-
--- and before a Sync Header
-abbrev pub forHeader : List (List ℕ)
-forHeader = m100 ∷ m000 ∷ []
-
--- document 01's choice from a list in order of preference: m stands in it and is allowed, no allowed one has a smaller absolute DSV, and each
--- allowed one before it has a larger
-pub record Chosen (from : List (List ℕ)) (ok : List ℕ → Bool) (dsv : List ℕ → ℕ) (m : List ℕ) : Type 0 where
-  pub place : ℕ
-  pub stands : place < length from
-  pub is : getD from place [] ≡ m
-  pub is-allowed : T (ok m)
-  pub none-smaller : (k : ℕ) → k < length from → T (ok (getD from k [])) → dsv m ≤ dsv (getD from k [])
-  pub earlier-larger : (k : ℕ) → k < place → T (ok (getD from k [])) → dsv m < dsv (getD from k [])
-
--- it is found by taking the better of two, again and again (Chosen/Fold: `chosen-word`, `chosen-header`)
+-- the choice from a list in order of preference takes the better of two, again and again; that it is the one that document 01's sentence describes,
+-- and the only one, is shown in Chosen/One and Chosen/Fold
 
 -- of two, in this order: the second if it is allowed and the first isn't, or if both are and the second has the smaller DSV
 abbrev pub better : (List ℕ → Bool) → (List ℕ → ℕ) → List ℕ → List ℕ → List ℕ
@@ -89,8 +71,8 @@ withWord w next =
 
 -- a Sync Header is written, at its place
 unfoldable pub withHeader : SoFar → SoFar
-withHeader w = after w header
+withHeader w = after w syncHeaderBits
 
 -- the Merging bits before the next Sync Header are written
 unfoldable pub withTail : SoFar → SoFar
-withTail w = after w (beforeHeader (allowed (w .bits) header) (dsvAfter (w .level) (w .plus) (w .minus) header))
+withTail w = after w (beforeHeader (allowed (w .bits) syncHeaderBits) (dsvAfter (w .level) (w .plus) (w .minus) syncHeaderBits))

@@ -1,5 +1,5 @@
--- Level and DSV (document 01, "Channel bits"): a ONE flips the level, and each bit then adds the level, +1 or -1, to the DSV.
--- The level is 1 for +1 and 0 for -1. The DSV is the number of bits at level +1 less the number of those at -1.
+-- Level and DSV (clause 19.4 and Annex E; document 01, "Channel bits"): a ONE flips the level, and each bit then adds the level, +1 or -1, to the
+-- DSV. The level is 1 for +1 and 0 for -1. Bits change the DSV by the number of them at level +1 less the number of those at -1.
 -- Assumes nothing.
 use mathlib.Core.List.{List, [], _∷_}
 use Prim.Native.Nat.{ℕ, zero, suc, _+_, _-_}

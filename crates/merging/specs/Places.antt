@@ -5,15 +5,15 @@ use mathlib.Core.Bool.{Bool, true, not, _&&_}
 use mathlib.Core.List.{List, [], _∷_, _++_}
 use Prim.Native.Nat.{ℕ, zero, suc, _<_}
 use lib.ListN.{length}
-use Rattle.merging.specs.Rule.{header, starts}
+use Rattle.merging.specs.Rule.{syncHeaderBits, starts}
 use Rattle.merging.specs.Automaton.{broken, shown}
 pub mod Kept
 
 -- Sync Headers stand in bs exactly at the next own place, which is c bits on, and every 588 bits after it
 unfoldable pub placed : ℕ → List ℕ → Bool
 placed c [] = true
-placed zero (b ∷ bs) = starts header (b ∷ bs) && placed 587 bs
-placed (suc c) (b ∷ bs) = not (starts header (b ∷ bs)) && placed c bs
+placed zero (b ∷ bs) = starts syncHeaderBits (b ∷ bs) && placed 587 bs
+placed (suc c) (b ∷ bs) = not (starts syncHeaderBits (b ∷ bs)) && placed c bs
 
 -- c, n bits earlier
 abbrev pub earlier : ℕ → ℕ → ℕ

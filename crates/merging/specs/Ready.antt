@@ -6,7 +6,7 @@ use mathlib.Core.List.{List, _++_}
 use Prim.Native.Nat.{ℕ, _%_}
 use lib.Dec.{eqb, leb, ltb, T}
 use Rattle.words.specs.RunRule.{gaps}
-use Rattle.merging.specs.Rule.{header, headers}
+use Rattle.merging.specs.Rule.{syncHeaderBits, headers}
 use Rattle.merging.specs.Automaton.{broken, steps, live, shown, start22, passes}
 use Rattle.merging.specs.Chosen.{m100, m010, m001, m000}
 pub mod Apart
@@ -39,7 +39,7 @@ takes bs s =
 
 -- the automaton and the rule agree on Merging bits m
 unfoldable pub headerAgrees : ℕ → List ℕ → Bool
-headerAgrees s m = cond (live (steps s (m ++ start22))) (ruled 1 s (m ++ header)) (not (ruled 1 s (m ++ header)))
+headerAgrees s m = cond (live (steps s (m ++ start22))) (ruled 1 s (m ++ syncHeaderBits)) (not (ruled 1 s (m ++ syncHeaderBits)))
 
 -- on both, and one of them passes
 unfoldable pub takesHeader : ℕ → Bool

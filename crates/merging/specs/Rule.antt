@@ -5,13 +5,14 @@ use mathlib.Core.List.{List, [], _∷_, _++_}
 use Prim.Native.Nat.{ℕ, suc, _+_}
 use lib.Dec.{eqb}
 use Rattle.bits.specs.Bits.{bitsOf}
+use Rattle.words.specs.Words.{syncHeader}
 use Rattle.words.specs.RunRule.{runs}
 pub mod Earlier
 pub mod Headers
 
--- the Sync Header of clause 19.2 (Annex E prints it with 22 digits: with nine ZEROs in each of its two runs, and not ten)
-abbrev pub header : List ℕ
-header = bitsOf 24 0b100000000001000000000010
+-- the 24 bits of the Sync Header
+abbrev pub syncHeaderBits : List ℕ
+syncHeaderBits = bitsOf 24 syncHeader
 
 -- bs begins with the bits ps
 abbrev pub starts : List ℕ → List ℕ → Bool
@@ -22,7 +23,7 @@ starts (p ∷ ps) (b ∷ bs) = eqb p b && starts ps bs
 -- how many Sync Headers stand in bs, wherever they begin
 unfoldable pub headers : List ℕ → ℕ
 headers [] = 0
-headers (b ∷ bs) = cond (starts header (b ∷ bs)) (suc (headers bs)) (headers bs)
+headers (b ∷ bs) = cond (starts syncHeaderBits (b ∷ bs)) (suc (headers bs)) (headers bs)
 
 -- after the bits `past` and before the bits `next` the Merging bits m are allowed: the run rule holds, and no Sync Header is made beyond
 -- those that `past` and `next` have by themselves (a word has none; the Sync Header at its own place is one). A Section's bits are enough for

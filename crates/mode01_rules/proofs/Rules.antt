@@ -1,6 +1,6 @@
 -- The ways out of the test of the rules that no parity settles.
 -- Assumes nothing.
-use mathlib.Core.Path.{_≡_, refl, sym, _∙_}
+use mathlib.Core.Path.{_≡_, refl, sym, ap, _∙_}
 use mathlib.Core.Bool.{Bool, true, false, not}
 use mathlib.Core.List.{List}
 use Prim.Native.Nat.{ℕ}
@@ -9,6 +9,7 @@ use lib.ListN.{length, take}
 use Rattle.edc.specs.Bits.{bits}
 use Rattle.edc.specs.Edc.{remainder, isZero}
 use Rattle.address.specs.Address.{inRange}
+use Rattle.address.specs.declared.HeaderTime.{HeaderTime}
 use Rattle.sector.specs.Layout.{bytesFrom, timeOf, modeOf, zeros}
 use Rattle.lists.specs.Same.{same}
 use Rattle.mode01_rules.specs.Rules.{rules, Tests}
@@ -24,19 +25,22 @@ module _ (s : List ℕ) (l : length s ≡ 2352) where
   unfolding rules
   on-mode n = tested (simp (ne-eqb (modeOf s) 1 n))
 
-  module _ (m : modeOf s ≡ 1) (a : Bool) (ha : a ≡ inRange (timeOf s)) where
+  module _ (m : modeOf s ≡ 1) (t : HeaderTime) (ht : t ≡ timeOf s) (a : Bool) (ha : a ≡ inRange t) where
+    ranged : inRange (timeOf s) ≡ a
+    ranged = ap inRange (sym ht) ∙ sym ha
+
     pub on-address : not a ≡ true → Tests s false
     unfolding rules
-    on-address n = let d = sym ha ∙ not-true a n in tested (simp (eq-eqb (modeOf s) 1 m, d))
+    on-address n = let d = ranged ∙ not-true a n in tested (simp (eq-eqb (modeOf s) 1 m, d))
 
     module _ (na : not a ≡ false) (e : Bool) (he : e ≡ isZero (remainder (bits (take 2068 s)))) where
       pub on-edc : not e ≡ true → Tests s false
       unfolding rules
-      on-edc n = let d = sym ha ∙ not-false a na in let f = sym he ∙ not-true e n in tested (simp (eq-eqb (modeOf s) 1 m, d, f))
+      on-edc n = let d = ranged ∙ not-false a na in let f = sym he ∙ not-true e n in tested (simp (eq-eqb (modeOf s) 1 m, d, f))
 
       pub on-intermediate : not e ≡ false → (i : Bool) → i ≡ same (bytesFrom 2068 8 s) (zeros 8) → Tests s i
       unfolding rules
       on-intermediate n i hi =
-          let d = sym ha ∙ not-false a na in
+          let d = ranged ∙ not-false a na in
           let f = sym he ∙ not-false e n in
           tested (simp (eq-eqb (modeOf s) 1 m, d, f, hi))

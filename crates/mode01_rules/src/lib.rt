@@ -12,7 +12,7 @@ pub fn rules_right(s: &[u8]) -> bool
     if s[15] != 1 {
         return false;
     }
-    let time = HeaderTime(s[12], s[13], s[14]);
+    let time = HeaderTime::new(s[12], s[13], s[14]);
     if !time.in_range() {
         return false;
     }

@@ -20,5 +20,8 @@ pub fn user_length(mode: u8) -> usize
     if mode == 1 {
         return 2048;
     }
-    2336
+    if mode == 2 {
+        return 2336;
+    }
+    0
 }

@@ -8,6 +8,7 @@ use Rattle.captures.specs.Number.{shortest}
 use Rattle.number_reader.specs.declared.Leading.{Leading}
 use Rattle.number_reader.specs.declared.Leading.the-variants.{Number, Malformed}
 pub mod Says
+pub mod One
 
 -- n stands there, in k bytes
 pub record Stands (list : List ℕ) (at n k : ℕ) : Type 0 where

@@ -10,7 +10,7 @@ use lib.ListN.{getD}
 use Rattle.bits.specs.Bits.{bitsOf}
 use Rattle.merging.specs.Automaton.{broken, steps}
 use Rattle.merging.specs.Dsv.{ups, levelAfter}
-use Rattle.states.specs.States.{entered}
+use Rattle.automaton_states.specs.States.{entered}
 use Rattle.profiles.specs.declared.Profile.{Profile}
 pub mod Rows
 pub mod Hold

@@ -10,7 +10,7 @@ use lib.ListN.{length, getD, take, drop, replicate}
 use Rattle.outcome.specs.First.{firstBelow}
 use Rattle.outcome.specs.Say.{Say, done, refused, oneThenTwo, Outcome, answered}
 use Rattle.bits.specs.Bits.{pack}
-use Rattle.merging.specs.Rule.{header, starts}
+use Rattle.merging.specs.Rule.{syncHeaderBits, starts}
 use Rattle.captures.specs.Counts.{countsOf, runsOf, bitsIn, legal}
 use Rattle.captures.specs.Kept.{rightCapture, filled}
 pub mod Sizes
@@ -29,15 +29,15 @@ channelOf (c ∷ cs) = channel (runsOf (c ∷ cs))
 
 -- the bit at which the first Sync Header begins, or how many bits there are
 unfoldable pub firstHeader : List ℕ → ℕ
-firstHeader bits = firstBelow (λ p. starts header (drop p bits)) (length bits)
+firstHeader bits = firstBelow (λ p. starts syncHeaderBits (drop p bits)) (length bits)
 
 -- how many whole stretches of 588 bits there are from bit p on
 unfoldable pub framesFrom : List ℕ → ℕ → ℕ
 framesFrom bits p = (length bits - p) / 588
 
--- the bytes that n frames take: 588 bits are 73 bytes and a half
+-- the bytes that n frames of 588 bits take, a last half byte among them
 abbrev pub bytesFor : ℕ → ℕ
-bytesFor n = (147 * n + 1) / 2
+bytesFor n = (588 * n + 7) / 8
 
 -- n frames from bit p on, packed, a last half byte filled with zeros
 unfoldable pub packed : List ℕ → ℕ → ℕ → List ℕ
@@ -47,7 +47,7 @@ packed bits p n = pack (bytesFor n) (take (588 * n) (drop p bits) ++ replicate (
 unfoldable pub firstIllegal : List ℕ → ℕ
 firstIllegal ds = firstBelow (λ i. not (legal (getD ds i 0))) (length ds)
 
--- what is said of legal runs with these bits: 21 where there is no header; else the used length, and the number of frames
+-- what is said of legal runs with these bits and a header at bit p: 21 where there is no such bit; else the used length, and the number of frames
 abbrev pub headerSay : List ℕ → ℕ → Say
 headerSay bits p = cond (ltb p (length bits)) (done (bytesFor (framesFrom bits p) ∷ framesFrom bits p ∷ [])) (refused 21 [])
 
@@ -56,15 +56,19 @@ abbrev pub runsSay : List ℕ → ℕ → Say → Say
 runsSay ds i rest = cond (ltb i (length ds)) (refused 20 (i ∷ [])) rest
 
 -- 1, 2, 20, 21
-unfoldable pub replaySay : List ℕ → List ℕ → Say
-replaySay capture old =
+unfoldable pub replaySay : List ℕ → ℕ → List ℕ → Say
+replaySay capture p old =
     oneThenTwo (rightCapture capture) (eqb (length old) 65536)
-    (runsSay (runsOf (countsOf capture)) (firstIllegal (runsOf (countsOf capture)))
-    (headerSay (channelOf (countsOf capture)) (firstHeader (channelOf (countsOf capture)))))
+    (runsSay (runsOf (countsOf capture)) (firstIllegal (runsOf (countsOf capture))) (headerSay (channelOf (countsOf capture)) p))
 
--- the frames of a capture
-unfoldable pub framesOf : List ℕ → List ℕ
-framesOf bits = packed bits (firstHeader bits) (framesFrom bits (firstHeader bits))
+-- all whole frames from bit p on
+unfoldable pub framesOf : List ℕ → ℕ → List ℕ
+framesOf bits p = packed bits p (framesFrom bits p)
 
+-- a capture replayed from bit p on
+unfoldable pub replayingAt : List ℕ → ℕ → List ℕ → Outcome
+replayingAt capture p old = answered (replaySay capture p old) 65536 (filled 65536 (framesOf (channelOf (countsOf capture)) p)) old
+
+-- and from its first Sync Header on
 unfoldable pub replaying : List ℕ → List ℕ → Outcome
-replaying capture old = answered (replaySay capture old) 65536 (filled 65536 (framesOf (channelOf (countsOf capture)))) old
+replaying capture old = replayingAt capture (firstHeader (channelOf (countsOf capture))) old

@@ -1,17 +1,17 @@
--- The run of a report: its steps, what each of them prints, and where it ends.
+-- The run of a report (document 01, "The report"): its steps, what each of them prints, and where it ends.
 -- Assumes nothing.
 use mathlib.Core.Path.{_≡_}
 use mathlib.Core.List.{List, [], _++_}
 use Prim.Native.Nat.{ℕ, _<_}
 use lib.ListN.{length, take}
-use Rattle.tally.specs.declared.Counts.{Counts}
-use Rattle.tally.specs.declared.Fate.{Fate}
-use Rattle.tally.specs.Counting.{largest, noneCounted, countedWith}
+use Rattle.fate_counts.specs.declared.Counts.{Counts}
+use Rattle.fate_counts.specs.declared.Fate.{Fate}
+use Rattle.fate_counts.specs.Counting.{largest, noneCounted, countedWith}
 use Rattle.text.specs.Report.{firstLine, fateLine, tailLine, lastLine}
 use Rattle.fate.specs.Fated.{Fated}
-use Rattle.standing.specs.declared.Progress.{Progress}
-use Rattle.standing.specs.declared.Stand.{Stand}
-use Rattle.standing.specs.declared.Stand.the-variants.{Opening, Going, AtEnd, Closing, Done, ReadFailed, WriteFailed}
+use Rattle.report_stand.specs.declared.Progress.{Progress}
+use Rattle.report_stand.specs.declared.Stand.{Stand}
+use Rattle.report_stand.specs.declared.Stand.the-variants.{Opening, Going, AtEnd, Closing, Done, ReadFailed, WriteFailed}
 pub mod Seen
 pub mod Printed
 

@@ -5,13 +5,13 @@ use mathlib.Core.List.{List, [], _∷_}
 use Prim.Native.Nat.{ℕ}
 use types.Run.{OneOf, miss}
 use denote.Enum.Declared as enum
-use Rattle.tally.specs.declared.Counts.{Counts}
-use Rattle.tally.specs.Counting.{largest, noneCounted}
-use Rattle.standing.specs.declared.Progress.{Progress}
-use Rattle.standing.specs.declared.Stand.{Stand}
-use Rattle.standing.specs.declared.Stand.the-variants.{Opening, Going, AtEnd, Closing, Done, ReadFailed, WriteFailed}
+use Rattle.fate_counts.specs.declared.Counts.{Counts}
+use Rattle.fate_counts.specs.Counting.{largest, noneCounted}
+use Rattle.report_stand.specs.declared.Progress.{Progress}
+use Rattle.report_stand.specs.declared.Stand.{Stand}
+use Rattle.report_stand.specs.declared.Stand.the-variants.{Opening, Going, AtEnd, Closing, Done, ReadFailed, WriteFailed}
 use Rattle.report_run.specs.Run.{Step, opens, counts-left, closes, unwritten, Goes, begins, Reached, Counted, Turning, Final, Reported}
-use Rattle.standing.proofs.Stand as stand
+use Rattle.report_stand.proofs.Stand as stand
 use Rattle.reporting.proofs.Steps.{reach}
 
 first-turn : {s : Stand} {c d : Counts} {line : List ℕ} → Step Opening c line s d → Counted 0 s d

@@ -8,20 +8,20 @@ use native.Mathlib.Omega.{arith}
 use lib.ListN.{length}
 use Rattle.batch.specs.Sectors.{sectorAt}
 use Rattle.batch.specs.Sectors.Apart.{length-sector}
-use Rattle.tally.specs.declared.Counts.{Counts}
-use Rattle.tally.specs.Counting.{largest}
-use Rattle.reading.specs.declared.Filled.{Filled}
-use Rattle.reading.specs.declared.Read.{Read}
-use Rattle.reading.specs.declared.Read.the-variants.{Failed, End, More}
-use Rattle.reading.specs.Reading.{StoppedAt, Fills}
-use Rattle.standing.specs.declared.Progress.{Progress}
-use Rattle.standing.specs.declared.Stand.{Stand}
-use Rattle.standing.specs.declared.Stand.the-variants.{Going}
-use Rattle.standing.specs.Standing.{isOver, ahead, standOf, standAfter}
+use Rattle.fate_counts.specs.declared.Counts.{Counts}
+use Rattle.fate_counts.specs.Counting.{largest}
+use Rattle.input_reading.specs.declared.Filled.{Filled}
+use Rattle.input_reading.specs.declared.Read.{Read}
+use Rattle.input_reading.specs.declared.Read.the-variants.{Failed, End, More}
+use Rattle.input_reading.specs.Reading.{StoppedAt, Fills}
+use Rattle.report_stand.specs.declared.Progress.{Progress}
+use Rattle.report_stand.specs.declared.Stand.{Stand}
+use Rattle.report_stand.specs.declared.Stand.the-variants.{Going}
+use Rattle.report_stand.specs.Standing.{isOver, ahead, standOf, standAfter}
 use Rattle.report_run.specs.Run.{tells, ends, unread, goes, Reached, Counted, Turning}
 use Rattle.report_run.specs.Run as run
-use Rattle.saying.specs.Told.{Lines, none, next, Told, all-told, unwritten, sectorsIn, Some}
-use Rattle.saying.specs.Told.Counted.{lines-counted}
+use Rattle.report_lines.specs.Told.{Lines, none, next, Told, all-told, unwritten, sectorsIn, Some}
+use Rattle.report_lines.specs.Told.Counted.{lines-counted}
 use Rattle.reporting.specs.Inner.Turn.{Turn}
 use Rattle.reporting.proofs.Steps.{going, turned-over}
 

@@ -4,11 +4,11 @@ use mathlib.Core.Path.{_≡_, refl}
 use mathlib.Core.Bool.{true, false}
 use Prim.Native.Nat.{ℕ}
 use native.Mathlib.Omega.{arith}
-use Rattle.tally.specs.declared.Counts.{Counts}
-use Rattle.standing.specs.declared.Progress.{Progress}
-use Rattle.standing.specs.declared.Stand.{Stand}
-use Rattle.standing.specs.declared.Stand.the-variants.{Opening, Going, AtEnd, Closing, Done, ReadFailed, WriteFailed}
-use Rattle.standing.specs.Standing.{isOver}
+use Rattle.fate_counts.specs.declared.Counts.{Counts}
+use Rattle.report_stand.specs.declared.Progress.{Progress}
+use Rattle.report_stand.specs.declared.Stand.{Stand}
+use Rattle.report_stand.specs.declared.Stand.the-variants.{Opening, Going, AtEnd, Closing, Done, ReadFailed, WriteFailed}
+use Rattle.report_stand.specs.Standing.{isOver}
 use Rattle.report_run.specs.Run.{Goes, goes, Reached, Counted, Turning}
 
 pub reach : {s t : Stand} {c d : Counts} → Reached s c → Goes s c t d → Reached t d

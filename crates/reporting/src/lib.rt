@@ -1,27 +1,27 @@
-// The report (document 01) from standard input to standard output. What one read means stands in `reading`, what follows from it in
-// `standing`, its steps in `report_run`, what is printed in `saying`; the fate of a Sector is decided in `batch` and `fate`, every character of a line in `text`.
+// The report (document 01) from standard input to standard output. What one read means stands in `input_reading`, what follows from it in
+// `report_stand`, its steps in `report_run`, what is printed in `report_lines`; the fate of a Sector is decided in `batch` and `fate`, every character of a line in `text`.
 ghost use mathlib.Core.Path.{_≡_};
 ghost use Prim.Native.Nat.{_*_};
 ghost use lib.ListN.{length};
-ghost use Rattle.reading.specs.Reading.{Fills};
-ghost use Rattle.tally.specs.Counting.{largest};
-ghost use Rattle.standing.specs.Standing.{ahead};
+ghost use Rattle.input_reading.specs.Reading.{Fills};
+ghost use Rattle.fate_counts.specs.Counting.{largest};
+ghost use Rattle.report_stand.specs.Standing.{ahead};
 ghost use Rattle.report_run.specs.Run.{Turning, Reported};
 ghost use Rattle.reporting.specs.Inner.Turn.{Turn};
+use fate_counts::Counts;
+use input_reading::Filled;
 use libc::STDERR_FILENO;
-use reading::Filled;
-use standing::Progress;
-use standing::Stand;
-use standing::over;
-use tally::Counts;
+use report_stand::Progress;
+use report_stand::Stand;
+use report_stand::over;
 
 // Prints the lines of the whole Sectors that came; then the report stands as reading ended.
 fn tell_whole(counts: Counts, filled: Filled, received: &[u8], out: &mut [u8]) -> Progress
     requires { ⌜ (length (now received) ≡ 37632) × (length (now out) ≡ 37632) × Fills (2352 * ahead counts) filled ⌝ }
     ensures { λ r. ⌜ Turn counts r ⌝ }
 {
-    let whole = standing::whole_bytes(filled.have);
-    let told = saying::tell_each(counts, &received[..whole], &mut out[..whole]);
+    let whole = report_stand::whole_bytes(filled.have);
+    let told = report_lines::tell_each(counts, &received[..whole], &mut out[..whole]);
     let stand = told.stand;
     if over(stand) {
         return told;
@@ -29,7 +29,7 @@ fn tell_whole(counts: Counts, filled: Filled, received: &[u8], out: &mut [u8]) -
     let counted = told.counts;
     Progress {
         counts: counted,
-        stand: standing::stand_after(filled),
+        stand: report_stand::stand_after(filled),
     }
 }
 
@@ -38,8 +38,8 @@ fn turn(counts: Counts, received: &mut [u8], out: &mut [u8]) -> Progress
     requires { ⌜ (length (now received) ≡ 37632) × (length (now out) ≡ 37632) ⌝ }
     ensures { λ r. ⌜ Turn counts r ⌝ }
 {
-    let room = 2352 * standing::sectors_ahead(counts);
-    let filled = reading::fill(&mut received[..room]);
+    let room = 2352 * report_stand::sectors_ahead(counts);
+    let filled = input_reading::fill(&mut received[..room]);
     tell_whole(counts, filled, received, out)
 }
 
@@ -79,13 +79,13 @@ fn close(run: Progress) -> Progress
         return run;
     };
     let counts = run.counts;
-    let tailed = saying::tail(left, counts);
+    let tailed = report_lines::tail(left, counts);
     let reached = tailed.stand;
     let Stand::Closing = reached else {
         return tailed;
     };
     let counted = tailed.counts;
-    saying::last(counted)
+    report_lines::last(counted)
 }
 
 // Says on standard error what failed.
@@ -109,7 +109,7 @@ fn complain(stand: Stand) {
 pub fn report() -> Progress
     ensures { λ r. ⌜ Reported r ⌝ }
 {
-    let run = turns(saying::open());
+    let run = turns(report_lines::open());
     let closed = close(run);
     let stand = closed.stand;
     complain(stand);

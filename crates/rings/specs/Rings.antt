@@ -1,4 +1,4 @@
--- Rings one after the other in one flat store, with a place for each row that waits: a row that does not wait has none.
+-- Rings one after the other in one flat store, with a place for each row that waits (document 02, §9): a row that does not wait has none.
 -- Assumes nothing.
 use mathlib.Core.Bool.{Bool, true, _&&_}
 use mathlib.Core.List.{List, [], _∷_, _++_}

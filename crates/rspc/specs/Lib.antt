@@ -5,5 +5,6 @@ pub mod Either
 pub mod Place
 pub mod Put
 pub mod Pass
+pub mod PassInPlace
 -- how the code goes over them
 pub mod Columns

@@ -1,7 +1,7 @@
 -- What judging decides of a trial, and what a pass in turn does.
 -- Assumes nothing.
 use mathlib.Core.Path.{_≡_, refl, sym, ap, _∙_, subst}
-use mathlib.Core.Bool.{Bool, true, false, cond, false≢true}
+use mathlib.Core.Bool.{Bool, false, cond, false≢true}
 use mathlib.Core.List.{List, [], _∷_}
 use Prim.Native.Nat.{ℕ, _%_}
 use borrow.Author.Tests.{eq-eqb, ne-eqb, eqb-true}
@@ -12,7 +12,7 @@ use Rattle.outcome.specs.Bytes.{Bytes}
 use Rattle.outcome.specs.Say.{Say, refused}
 use Rattle.outcome.specs.Say.Refusals.{never}
 use Rattle.rspc.specs.declared.Parity.the-variants.{P, Q}
-use Rattle.rspc.specs.Pass.{Pass}
+use Rattle.rspc.specs.PassInPlace.{Pass}
 use Rattle.address.specs.declared.HeaderTime.{HeaderTime}
 use Rattle.sector.specs.Layout.{timeOf}
 use Rattle.judge.specs.Judging.{passing, judging, sayOf}

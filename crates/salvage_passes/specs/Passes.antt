@@ -3,8 +3,9 @@
 use mathlib.Core.Bool.{Bool}
 use mathlib.Core.List.{List}
 use Prim.Native.Nat.{ℕ}
-use Rattle.rspc.specs.Pass.{Pass}
+use Rattle.rspc.specs.PassInPlace.{Pass}
 use Rattle.salvaging.specs.Turns.{turn}
+pub mod One
 
 -- t is s after pass k, whether or not each codeword had one near
 pub record Passes (k : ℕ) (s t : List ℕ) : Type 0 where

@@ -5,7 +5,8 @@ use mathlib.Core.Bool.{Bool, true, false}
 use mathlib.Core.List.{List}
 use Prim.Native.Nat.{ℕ}
 use Rattle.sector.specs.Correct.{CorrectMode01}
-use Rattle.trial.specs.Tried.{Freshen}
+use Rattle.trial.specs.Freshen.{Freshen}
+pub mod One
 
 -- r tells whether s is a correct Sector of Mode 01
 pub record Decides (s : List ℕ) (r : Bool) : Type 0 where

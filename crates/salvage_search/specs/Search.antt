@@ -9,6 +9,7 @@ use Rattle.salvaging.specs.Turns.{After}
 use Rattle.salvaging.specs.Salvage.{ResultOf, NoneFound}
 use Rattle.salvage_search.specs.declared.Found.{Found}
 use Rattle.salvage_search.specs.declared.Found.the-variants as found
+pub mod One
 
 -- what was found for what came in, and the Sector t then
 abbrev pub Finds : List ℕ → ℕ → Found → List ℕ → Type 0

@@ -15,7 +15,7 @@ use Rattle.merging.specs.Ready.{Takes, ready}
 use Rattle.merging.specs.Ready.Agrees.{taken, header-agrees, header-passes}
 use Rattle.merging.specs.Automaton.{steps, live, start22, headed}
 use Rattle.merging.specs.Chosen.{SoFar, after, withHeader, withTail}
-use Rattle.merging.specs.Rule.{header}
+use Rattle.merging.specs.Rule.{syncHeaderBits}
 use Rattle.merging.specs.Ready.Taken.{word-taken, sync0-taken, sync1-taken, header-taken}
 use Rattle.merging.specs.Automaton.Speaks.{state-more, state-header}
 use Rattle.merging.specs.Automaton.Steps.{steps-append, live-first}
@@ -39,15 +39,15 @@ use Rattle.section_frames.proofs.ChosenWords.{Stands, Leads, AllBytes, 
 -- ---- a Sync Header
 
 module _ (past : List ℕ) (n : ℕ) (t : Tally) (opens : Opens past) (w : Within n t) (room : n < 2 ^ 60) where
-  goes-over : afterHeader t ≡ record { run = headed; tally = tallyAfter t header }
+  goes-over : afterHeader t ≡ record { run = headed; tally = tallyAfter t syncHeaderBits }
   unfolding afterHeader
   goes-over = let e : light t ≡ true = room-light t (within-light w room) in rw e
 
-  pub header-leads : Leads past header (n + 24) (afterHeader t) (withHeader (noted past t))
+  pub header-leads : Leads past syncHeaderBits (n + 24) (afterHeader t) (withHeader (noted past t))
   unfolding withHeader ready
   header-leads =
-      subst (λ (x : Trace). Leads past header (n + 24) x (after (noted past t) header)) (sym goes-over)
-      (record { stands = record { in-state = opens; at-ease = tt; within = within-after w header }; is = refl })
+      subst (λ (x : Trace). Leads past syncHeaderBits (n + 24) x (after (noted past t) syncHeaderBits)) (sym goes-over)
+      (record { stands = record { in-state = opens; at-ease = tt; within = within-after w syncHeaderBits }; is = refl })
 
 -- ---- the Merging bits before the next one
 
@@ -66,7 +66,7 @@ module _ (past : List ℕ) (n : ℕ) (t : Trace) (s : Stands past n t) (room : n
 
   fine : T (live (steps (steps (t .run) m) start22))
   unfolding m
-  fine = subst (λ (r : ℕ). T (live r)) (steps-append (t .run) m start22) (header-passes (t .run) (header-taken (t .run) (s .at-ease)) (tallyDsv (t .tally) header))
+  fine = subst (λ (r : ℕ). T (live r)) (steps-append (t .run) m start22) (header-passes (t .run) (header-taken (t .run) (s .at-ease)) (tallyDsv (t .tally) syncHeaderBits))
 
   ended : Ends past m (n + 3) (tallyAfter (t .tally) m) (withTail (noted past (t .tally)))
   unfolding m withTail
@@ -75,7 +75,7 @@ module _ (past : List ℕ) (n : ℕ) (t : Trace) (s : Stands past n t) (room : n
       record {
         opens = state-header (past ++ m) (steps (t .run) m) (state-more past (t .run) m (s .in-state) (d .binary) (live-first (steps (t .run) m) start22 fine)) fine;
         within = subst (λ (x : ℕ). Within (n + x) (tallyAfter (t .tally) m)) (d .long) (within-after (s .within) m);
-        is = ap (after (noted past (t .tally))) (sym (header-agrees (t .run) (header-taken (t .run) (s .at-ease)) (tallyDsv (t .tally) header) past (s .in-state)));
+        is = ap (after (noted past (t .tally))) (sym (header-agrees (t .run) (header-taken (t .run) (s .at-ease)) (tallyDsv (t .tally) syncHeaderBits) past (s .in-state)));
       }
 
   -- they are written as the rule has it
@@ -119,17 +119,17 @@ pub record FrameFits (ks : List ℕ) : Type 0 where
 
 -- the bits of a frame
 abbrev pub frameBits : FrameChoice → List ℕ
-frameBits c = header ++ (wordBits (c .words) ++ bitsOf 3 (c .tail))
+frameBits c = syncHeaderBits ++ (wordBits (c .words) ++ bitsOf 3 (c .tail))
 
 module _ (past : List ℕ) (n : ℕ) (t : Tally) (opens : Opens past) (w : Within n t) (room : n + 588 < 2 ^ 60) where
   words-after : (k : ℕ) (ks : List ℕ) → k < 258 → AllBytes ks → length ks ≡ 32
-      → Leads (past ++ header) (wordBits (wordsChosen (afterHeader t) (k ∷ ks))) (n + 24 + 17 * suc (length ks)) (wordsTrace (afterHeader t) (k ∷ ks)) (withWords (withHeader (noted past t)) (wordsOf (k ∷ ks)))
+      → Leads (past ++ syncHeaderBits) (wordBits (wordsChosen (afterHeader t) (k ∷ ks))) (n + 24 + 17 * suc (length ks)) (wordsTrace (afterHeader t) (k ∷ ks)) (withWords (withHeader (noted past t)) (wordsOf (k ∷ ks)))
   unfolding afterHeader
   words-after k ks low bytes long =
       let h = header-leads past n t opens w (omega arith) in
-      let one = word-leads (past ++ header) (n + 24) (afterHeader t) k (h .stands) (omega arith) low (first-takes k low) in
-      subst (λ (x : SoFar). Leads (past ++ header) (wordBits (wordsChosen (afterHeader t) (k ∷ ks))) (n + 24 + 17 * suc (length ks)) (wordsTrace (afterHeader t) (k ∷ ks)) (withWords x (wordsOf (k ∷ ks))))
-      (h .is) (leads-more (past ++ header) (n + 24) (afterHeader t) k ks (noted (past ++ header) (afterHeader t .tally)) one (words-lead ks bytes) (omega arith))
+      let one = word-leads (past ++ syncHeaderBits) (n + 24) (afterHeader t) k (h .stands) (omega arith) low (first-takes k low) in
+      subst (λ (x : SoFar). Leads (past ++ syncHeaderBits) (wordBits (wordsChosen (afterHeader t) (k ∷ ks))) (n + 24 + 17 * suc (length ks)) (wordsTrace (afterHeader t) (k ∷ ks)) (withWords x (wordsOf (k ∷ ks))))
+      (h .is) (leads-more (past ++ syncHeaderBits) (n + 24) (afterHeader t) k ks (noted (past ++ syncHeaderBits) (afterHeader t .tally)) one (words-lead ks bytes) (omega arith))
 
   -- a frame is written as the rule has it
   pub frame-ends : (ks : List ℕ) → FrameFits ks → Ends past (frameBits (frameChoice t ks)) (n + 588) (frameChoice t ks .after) (withFrame (noted past t) (wordsOf ks))
@@ -142,8 +142,8 @@ module _ (past : List ℕ) (n : ℕ) (t : Tally) (opens : Opens past) (w : Withi
       let mid = wordBits (wordsChosen (afterHeader t) (k ∷ rest)) in
       let last = bitsOf 3 (tailChoice tr .bits) in
       let count : n + 24 + 17 * suc (length rest) + 3 ≡ n + 588 = omega (arith, f .long) in
-      let e = tail-ends ((past ++ header) ++ mid) (n + 24 + 17 * suc (length rest)) tr (a .stands) (omega (arith, f .long)) in
-      let bits : ((past ++ header) ++ mid) ++ last ≡ past ++ (header ++ (mid ++ last)) = append-assoc (past ++ header) mid last ∙ append-assoc past header (mid ++ last) in
+      let e = tail-ends ((past ++ syncHeaderBits) ++ mid) (n + 24 + 17 * suc (length rest)) tr (a .stands) (omega (arith, f .long)) in
+      let bits : ((past ++ syncHeaderBits) ++ mid) ++ last ≡ past ++ (syncHeaderBits ++ (mid ++ last)) = append-assoc (past ++ syncHeaderBits) mid last ∙ append-assoc past syncHeaderBits (mid ++ last) in
       let done : Ends past (frameBits (frameChoice t (k ∷ rest))) (n + 588) (frameChoice t (k ∷ rest) .after) (withFrame (noted past t) (wordsOf (k ∷ rest)))
       = record {
         opens = subst (λ (l : List ℕ). Opens l) bits (e .opens);

@@ -8,8 +8,9 @@ use native.Mathlib.Omega.{arith}
 use lib.ListN.{length, getD, take}
 use lib.Seq.{take-length}
 use Rattle.bits.specs.Bits.{bitsOf, unpack}
+use Rattle.words.specs.Words.{syncHeader}
 use Rattle.merging.specs.Chosen.{SoFar}
-use Rattle.merging.specs.Rule.{header}
+use Rattle.merging.specs.Rule.{syncHeaderBits}
 use Rattle.merging.specs.Automaton.Speaks.{state-first}
 use Rattle.choosing.specs.declared.FrameChoice.{FrameChoice}
 use Rattle.traces.specs.declared.Tally.{Tally}
@@ -19,7 +20,7 @@ use Rattle.choosing.specs.Choices.{frameChoice, wordsTrace}
 use Rattle.choosing.specs.Choices.Digits.{words-small}
 use Rattle.words.specs.Symbols.{wordsOf}
 use Rattle.traces.specs.Traces.{Within}
-use Rattle.section_state.specs.Carried.{farthest}
+use Rattle.section_state.specs.Tallies.{farthest}
 use Rattle.section_frames.specs.declared.frame.Writing.{Writing}
 use Rattle.section_frames.specs.declared.pen.Pen.{Pen}
 use Rattle.section_frames.specs.Frames.{noted, sectionEnd, FramesDone}
@@ -66,7 +67,7 @@ module _ (out₀ : List ℕ) (w₀ : Writing) (frames control : List ℕ) (f : �
         (frame-ends (inked out₀ (w₀ .pen)) (farthest + penPlace (w₀ .pen)) (w₀ .tally) (due .rest .opens) (due .rest .within) (omega (arith, due .room)) ks (found-fits frames control f ks long found)))
 
     pub frame-done : (out₁ : List ℕ) (p₁ : Pen) (out₂ : List ℕ) (p₂ : Pen) (out₃ : List ℕ) (p₃ : Pen)
-        → Inked out₀ (w₀ .pen) 0b100000000001000000000010 24 out₁ p₁ → WordsInked out₁ p₁ (c .words) out₂ p₂ → Inked out₂ p₂ (c .tail) 3 out₃ p₃
+        → Inked out₀ (w₀ .pen) syncHeader 24 out₁ p₁ → WordsInked out₁ p₁ (c .words) out₂ p₂ → Inked out₂ p₂ (c .tail) 3 out₃ p₃
         → FrameDone out₀ w₀ frames control f out₃ (record { pen = p₃; tally = c .after })
     frame-done out₁ p₁ out₂ p₂ out₃ p₃ h w t =
         let past = inked out₀ (w₀ .pen) in
@@ -74,7 +75,7 @@ module _ (out₀ : List ℕ) (w₀ : Writing) (frames control : List ℕ) (f : �
         let last = bitsOf 3 (c .tail) in
         let bits : inked out₃ p₃ ≡ past ++ frameBits c
         = t .bits ∙ ap (λ (l : List ℕ). l ++ last) (w .bits ∙ ap (λ (l : List ℕ). l ++ mid) (h .bits))
-        ∙ append-assoc (past ++ header) mid last ∙ append-assoc past header (mid ++ last) in
+        ∙ append-assoc (past ++ syncHeaderBits) mid last ∙ append-assoc past syncHeaderBits (mid ++ last) in
         let place : penPlace p₃ ≡ penPlace (w₀ .pen) + 588 = omega (arith, h .place, w .place, t .place) in
         let count : farthest + penPlace (w₀ .pen) + 588 ≡ farthest + penPlace p₃ = omega arith in
         let e = chosen-ends in

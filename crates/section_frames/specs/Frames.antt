@@ -10,7 +10,8 @@ use Rattle.bits.specs.Bits.{unpack}
 use Rattle.merging.specs.Chosen.{SoFar}
 use Rattle.traces.specs.declared.Tally.{Tally}
 use Rattle.traces.specs.Traces.{Within}
-use Rattle.section_state.specs.Carried.{sectionBits, farthest}
+use Rattle.section_state.specs.Carried.{sectionBits}
+use Rattle.section_state.specs.Tallies.{farthest}
 use Rattle.section_frames.specs.Section.{sectionAfter}
 pub mod Due
 pub mod One

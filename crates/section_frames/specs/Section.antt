@@ -36,7 +36,7 @@ unfoldable pub withFrames : SoFar → List ℕ → List ℕ → ℕ → ℕ → 
 withFrames w frames control f zero = w
 withFrames w frames control f (suc n) = withFrames (withFrame w (frameWords frames control f)) frames control (suc f) n
 
--- a whole Section, after the level and the counts of bits at level +1 and -1 that are carried over
+-- a whole Section, after the level that is carried over and two counts whose difference is the DSV that is
 unfoldable pub sectionAfter : ℕ → ℕ → ℕ → List ℕ → List ℕ → SoFar
 sectionAfter level plus minus frames control =
     withFrames (record { bits = []; level = level; plus = plus; minus = minus }) frames control 0 98

@@ -2,7 +2,7 @@
 ghost use mathlib.Core.Path.{_≡_};
 ghost use lib.ListN.{length};
 ghost use Rattle.traces.specs.Traces.{Within};
-ghost use Rattle.section_state.specs.Carried.{farthest};
+ghost use Rattle.section_state.specs.Tallies.{farthest};
 ghost use Rattle.section_frames.specs.Frames.{FramesDone};
 ghost use Rattle.section_frames.specs.Inner.BufferBits.{WordsDue, WordsInked};
 ghost use Rattle.section_frames.specs.Inner.FrameSteps.{FrameDue, FrameDone};

@@ -1,11 +1,9 @@
 -- The state that a Section writer carries (document 01, "Numbers that come back", 7 and 9): DSV, level and the count of Sections.
 -- Assumes nothing.
-use mathlib.Core.Bool.{Bool, cond, _&&_}
-use Prim.Native.Nat.{ℕ, zero, suc, _*_, _^_}
-use lib.Dec.{eqb, leb, ltb}
-use lib.IntN.{ℤ, pos, negsuc, subℕ, natAbs}
-use Rattle.traces.specs.declared.Tally.{Tally}
-pub mod Range
+use mathlib.Core.Bool.{Bool, _&&_}
+use Prim.Native.Nat.{ℕ, zero, suc, _*_}
+use lib.Dec.{eqb, leb}
+use lib.IntN.{ℤ, pos, negsuc, natAbs}
 
 -- a writer writes at most 450,000 Sections
 abbrev pub mostSections : ℕ
@@ -14,10 +12,6 @@ mostSections = 450000
 -- of 57,624 Channel bits each
 abbrev pub sectionBits : ℕ
 sectionBits = 57624
-
--- the farthest that a DSV may be from 0
-abbrev pub farthest : ℕ
-farthest = sectionBits * mostSections
 
 -- the level is +1 or -1
 abbrev pub levelRight : ℤ → Bool
@@ -47,11 +41,3 @@ levelNow (negsuc n) = 0
 abbrev pub levelThen : ℕ → ℤ
 levelThen zero = negsuc 0
 levelThen (suc l) = pos 1
-
--- the tally that a Section begins with
-abbrev pub beginning : ℤ → ℤ → Tally
-beginning dsv level = record { level = levelNow level; plus = above dsv; minus = below dsv }
-
--- the DSV after a Section, by the counts of bits at level +1 and at -1; for counts that no writer reaches it is 0
-unfoldable pub dsvThen : ℕ → ℕ → ℤ
-dsvThen plus minus = cond (ltb plus (2 ^ 60) && ltb minus (2 ^ 60)) (subℕ plus minus) (pos 0)

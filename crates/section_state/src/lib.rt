@@ -1,6 +1,8 @@
 // The state that a Section writer carries, signed as document 01 says it, and the tally that a Section is written with.
 ghost use mathlib.Core.Path.{_≡_};
-ghost use Rattle.section_state.specs.Carried.{possible, beginning, dsvThen, levelThen};
+ghost use lib.Dec.{ltb};
+ghost use Rattle.section_state.specs.Carried.{mostSections, possible, levelThen};
+ghost use Rattle.section_state.specs.Tallies.{beginning, dsvThen};
 use traces::Tally;
 
 mod signed;
@@ -16,6 +18,13 @@ pub fn is_possible(dsv: i64, level: i64, sections: u64) -> bool
         return false;
     }
     false
+}
+
+// One Section more may be written.
+pub fn has_room(sections: u64) -> bool
+    ensures { λ r. ⌜ r ≡ ltb sections mostSections ⌝ }
+{
+    sections < 450000
 }
 
 // The tally that a Section begins with.

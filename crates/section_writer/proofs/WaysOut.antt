@@ -20,8 +20,9 @@ use Rattle.bits.specs.Bits.Packed.{packed}
 use Rattle.merging.specs.Chosen.{SoFar}
 use Rattle.traces.specs.declared.Tally.{Tally}
 use Rattle.traces.specs.Traces.{Within}
-use Rattle.section_state.specs.Carried.{mostSections, possible, beginning, farthest, above, below, levelNow}
-use Rattle.section_state.specs.Carried.Range.{begins}
+use Rattle.section_state.specs.Carried.{mostSections, possible, above, below, levelNow}
+use Rattle.section_state.specs.Tallies.{beginning, farthest}
+use Rattle.section_state.specs.Tallies.Range.{begins}
 use Rattle.section_frames.specs.Frames.{noted, due, FramesDone}
 use Rattle.section_frames.specs.Frames.Due.{within-near, all-due}
 use Rattle.section_frames.specs.Section.{sectionAfter}

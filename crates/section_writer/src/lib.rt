@@ -83,7 +83,7 @@ impl SectionWriter {
         let level = self.level;
         let sections = self.sections;
         let possible = section_state::is_possible(dsv, level, sections);
-        let room = sections < 450000;
+        let room = section_state::has_room(sections);
         if possible {
             if room {
                 let before = section_state::begin(dsv, level);

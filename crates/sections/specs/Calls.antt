@@ -1,4 +1,5 @@
--- Calls of `write`, one after the other, with any buffers: what the calls that are done leave, and what every call says.
+-- Calls of `write`, one after the other, with any buffers: what the calls that are done leave, and what every call says (document 01, "Numbers that
+-- come back": 1, 2, 7).
 -- Assumes nothing.
 use mathlib.Core.Bool.{_&&_, cond}
 use mathlib.Core.List.{List, [], _∷_, _++_, map}

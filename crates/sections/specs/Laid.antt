@@ -1,4 +1,4 @@
--- Where the bytes of a Section stand in its bits, and what a reader has to find of them.
+-- Where the bytes of a Section stand in its bits (clause 19.4), and what a reader has to find of them (document 01, "Channel bits").
 -- Assumes nothing.
 use mathlib.Core.Path.{_≡_}
 use mathlib.Core.Bool.{cond}
@@ -8,6 +8,7 @@ use lib.Dec.{eqb}
 use lib.ListN.{getD}
 use Rattle.outcome.specs.Say.{done}
 use Rattle.outcome.specs.Table.{tabulated}
+use Rattle.words.specs.Words.{syncHeader}
 use Rattle.section_reader.specs.ReadSay.{ReadOut, readOut}
 use Rattle.fields.specs.Fields.{fieldAt}
 use Rattle.section_frames.specs.Section.{wordAt}
@@ -19,7 +20,7 @@ pub mod Scratch
 
 -- frame f stands in the bits from bit p on
 pub record Laid (frames control bits : List ℕ) (p f : ℕ) : Type 0 where
-  pub head : fieldAt bits p 24 ≡ 8392706
+  pub head : fieldAt bits p 24 ≡ syncHeader
   pub words : (i : ℕ) → i < 33 → fieldAt bits (p + (27 + 17 * i)) 14 ≡ wordAt frames control f i
 
 -- what stands at place i of frame f: in a Control place (clause 18) a in the first frame, b in the second and c in the others; elsewhere d

@@ -10,21 +10,21 @@ use Rattle.words.specs.RunRule.{runs}
 use Rattle.merging.specs.Chosen.{SoFar}
 use Rattle.merging.specs.Places.{placed, Placed}
 use Rattle.merging.specs.Ready.{ready}
-use Rattle.merging.specs.Rule.{header}
+use Rattle.merging.specs.Rule.{syncHeaderBits}
 use Rattle.merging.specs.Automaton.{headed, StateOf}
 pub mod Word
 pub mod Frame
 
 -- a Sync Header may follow
 pub record Opens (bits : List ℕ) : Type 0 where
-  pub in-state : StateOf (bits ++ header) headed
-  pub placed-then : Placed (bits ++ header) headed 564
+  pub in-state : StateOf (bits ++ syncHeaderBits) headed
+  pub placed-then : Placed (bits ++ syncHeaderBits) headed 564
   pub runs-so-far : runs bits ≡ true
   pub placed-so-far : placed 0 bits ≡ true
 
 -- the Section that w is in begins after the bits `old`
 pub record Opening (old : List ℕ) (w : SoFar) : Type 0 where
-  pub own : StateOf (w .bits ++ header) headed
+  pub own : StateOf (w .bits ++ syncHeaderBits) headed
   pub all : Opens (old ++ w .bits)
 
 -- in a frame, c bits before the next Sync Header's place

@@ -1,4 +1,4 @@
--- Any number of Sections in a row, as bits.
+-- Any number of Sections in a row (clause 19; document 01, "Channel bits"), as bits.
 -- Assumes nothing.
 use mathlib.Core.List.{List, [], _∷_, _++_}
 use Prim.Native.Nat.{ℕ}

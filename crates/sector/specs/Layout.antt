@@ -23,9 +23,9 @@ timeOf s = record { 0 = getD s 12 0; 1 = getD s 13 0; 2 = getD s 14 0 }
 abbrev pub modeOf : List ℕ → ℕ
 modeOf s = getD s 15 0
 
--- how many bytes of user data Modes 01 and 02 have, from byte 16 on
+-- how many bytes of user data a mode has, from byte 16 on: Mode 00 has none
 abbrev pub userLength : ℕ → ℕ
-userLength mode = cond (eqb mode 1) 2048 2336
+userLength mode = cond (eqb mode 1) 2048 (cond (eqb mode 2) 2336 0)
 
 abbrev pub userData : List ℕ → List ℕ
 userData s = bytesFrom 16 (userLength (modeOf s)) s

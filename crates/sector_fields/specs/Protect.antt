@@ -8,6 +8,7 @@ use Rattle.edc.specs.Edc.{Divisible}
 use Rattle.rspc.specs.Words.{PCodewords, QCodewords}
 use Rattle.sector.specs.Layout.{bytesFrom}
 pub mod Blank
+pub mod One
 
 -- t is the Sector l with its EDC and parities put in, and no other byte of it changed
 pub record Protects (l t : List ℕ) : Type 0 where

@@ -14,7 +14,7 @@ pub(crate) fn is_listed(table: &[u16; 256], guide: &[u8; 1351], w: u16) -> bool
     requires { ⌜ (now table ≡ words) × Guide (now guide) ⌝ }
     ensures { λ r. ⌜ r ≡ listed w ⌝ }
 {
-    let Symbol::Byte(_b) = words::look_up(table, guide, w) else {
+    let Symbol::Byte(_b) = looking_up::look_up(table, guide, w) else {
         return false;
     };
     true

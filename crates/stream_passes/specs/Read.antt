@@ -15,9 +15,9 @@ use Rattle.bits.specs.Bits.{unpack}
 use Rattle.bits.specs.Bits.Packed.{length-unpack, unpack-append}
 use Rattle.words.specs.declared.Symbol.{Symbol}
 use Rattle.words.specs.declared.Symbol.the-variants.{Byte, Unknown}
-use Rattle.words.specs.Words.{words, placeOf, byteOf, sync0, sync1}
+use Rattle.words.specs.Words.{words, placeOf, byteOf, sync0, sync1, syncHeader}
 use Rattle.words.specs.Words.Different.{sync0-unknown, sync1-unknown}
-use Rattle.merging.specs.Rule.{header}
+use Rattle.merging.specs.Rule.{syncHeaderBits}
 use Rattle.fields.specs.Fields.{fieldAt}
 use Rattle.word_marks.specs.Marks.{markFor}
 use Rattle.channel_frame.specs.ChannelFrame.{headless, wordRead}
@@ -74,11 +74,11 @@ module _ (channel : List ℕ) (a : Accepted channel) (s : ℕ) (h : s < length c
       ∙ ap (λ (t : List ℕ). first ++ t) (ap unpack (sym (take-append-drop 7203 (drop k channel))) ∙ unpack-append (sectionOf channel s) (drop 7203 (drop k channel))) in
       let f : length first ≡ 57624 * s = omega (arith, length-unpack (take k channel), length-take-le k channel (omega (arith, long)), long) in
       let g : length own ≡ 57624 = omega (arith, length-unpack (sectionOf channel s), length-take-le 7203 (drop k channel) (omega (arith, length-drop k channel, long))) in
-      sym (ap (λ (t : List ℕ). fieldAt (t ++ header) (57624 * s + p) n) e
-      ∙ ap (λ (t : List ℕ). fieldAt t (57624 * s + p) n) (append-assoc first (own ++ rest) header ∙ ap (λ (t : List ℕ). first ++ t) (append-assoc own rest header))
-      ∙ ap (λ (q : ℕ). fieldAt (first ++ (own ++ (rest ++ header))) (q + p) n) (sym f)
-      ∙ field-past first (own ++ (rest ++ header)) p n
-      ∙ field-keep own (rest ++ header) p n (omega arith))
+      sym (ap (λ (t : List ℕ). fieldAt (t ++ syncHeaderBits) (57624 * s + p) n) e
+      ∙ ap (λ (t : List ℕ). fieldAt t (57624 * s + p) n) (append-assoc first (own ++ rest) syncHeaderBits ∙ ap (λ (t : List ℕ). first ++ t) (append-assoc own rest syncHeaderBits))
+      ∙ ap (λ (q : ℕ). fieldAt (first ++ (own ++ (rest ++ syncHeaderBits))) (q + p) n) (sym f)
+      ∙ field-past first (own ++ (rest ++ syncHeaderBits)) p n
+      ∙ field-keep own (rest ++ syncHeaderBits) p n (omega arith))
 
   -- every frame has its Sync Header
   header-there : (f : ℕ) → f < 98 → headless (unpack (sectionOf channel s)) f ≡ false
@@ -86,7 +86,7 @@ module _ (channel : List ℕ) (a : Accepted channel) (s : ℕ) (h : s < length c
       let p = 57624 * s + 588 * f in
       let m : p % 588 ≡ 0 = omega arith in
       let r : p + 24 ≤ length (judged channel) = omega (arith, length-judged channel, long) in
-      ap not (ap (λ (v : ℕ). eqb v 0b100000000001000000000010) (own-field (588 * f) 24 (omega arith))
+      ap not (ap (λ (v : ℕ). eqb v syncHeader) (own-field (588 * f) 24 (omega arith))
       ∙ sym (header-number (judged channel) (binary-judged channel) p r) ∙ a .kept .headers-are p (omega arith) ∙ eq-eqb (p % 588) 0 m)
 
   -- and every word the mark of its place

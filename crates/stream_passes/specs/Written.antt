@@ -23,7 +23,7 @@ use Rattle.words.specs.Words.Different.{word-place}
 use Rattle.merging.specs.Automaton.{shown}
 use Rattle.merging.specs.Chosen.{SoFar}
 use Rattle.merging.specs.Places.{placed, earlier}
-use Rattle.merging.specs.Rule.{header}
+use Rattle.merging.specs.Rule.{syncHeaderBits}
 use Rattle.fields.specs.Fields.{fieldAt}
 use Rattle.channel_frame.specs.ChannelFrame.{wordRead}
 use Rattle.fields.specs.Fields.Parts.{field-keep, field-past}
@@ -47,15 +47,15 @@ use Rattle.stream_rules.specs.Accepted.Exactly.{accepts-exactly}
 stream-opens : (s : SectionWriter) (ps : List Part) → Opens (streamOf s ps)
 stream-opens s ps = all-sections [] s ps opens-none
 
-stream-runs : (s : SectionWriter) (ps : List Part) → runs (streamOf s ps ++ header) ≡ true
-stream-runs s ps = ap runs (sym (append-nil (streamOf s ps ++ header))) ∙ stream-opens s ps .in-state .runs-on []
+stream-runs : (s : SectionWriter) (ps : List Part) → runs (streamOf s ps ++ syncHeaderBits) ≡ true
+stream-runs s ps = ap runs (sym (append-nil (streamOf s ps ++ syncHeaderBits))) ∙ stream-opens s ps .in-state .runs-on []
 
 rest-placed : placed (earlier (length (shown 12)) 564) (shown 12 ++ []) ≡ true
 unfolding placed
 rest-placed = refl
 
-stream-placed : (s : SectionWriter) (ps : List Part) → placed 0 (streamOf s ps ++ header) ≡ true
-stream-placed s ps = ap (placed 0) (sym (append-nil (streamOf s ps ++ header))) ∙ stream-opens s ps .placed-then .placed-on [] ∙ rest-placed
+stream-placed : (s : SectionWriter) (ps : List Part) → placed 0 (streamOf s ps ++ syncHeaderBits) ≡ true
+stream-placed s ps = ap (placed 0) (sym (append-nil (streamOf s ps ++ syncHeaderBits))) ∙ stream-opens s ps .placed-then .placed-on [] ∙ rest-placed
 
 -- ---- lengths
 
@@ -123,15 +123,15 @@ words-right (p ∷ ps) s x i hi f hf =
 -- ---- together
 
 -- what a writer writes one after the other keeps what document 02 says
-pub stream-kept : (s : SectionWriter) (ps : List Part) → Kept (streamOf s ps ++ header) (length ps)
+pub stream-kept : (s : SectionWriter) (ps : List Part) → Kept (streamOf s ps ++ syncHeaderBits) (length ps)
 stream-kept s ps =
     record {
       runs-are = stream-runs s ps;
       headers-are = λ p h.
-          let B = streamOf s ps ++ header in
+          let B = streamOf s ps ++ syncHeaderBits in
           let e : (p + (588 - 0)) % 588 ≡ p % 588 = omega arith in
           starts-at B 0 p (of-true (placed 0 B) (stream-placed s ps)) (omega arith) h ∙ ap (λ (n : ℕ). eqb n 0) e;
-      words-are = λ f i hf hi. words-right ps s header i hi f hf;
+      words-are = λ f i hf hi. words-right ps s syncHeaderBits i hi f hf;
     }
 
 right-length : (l m : ℕ) → l ≡ 7203 * m → 1 ≤ m → m ≤ 9 → rightLength l ≡ true
@@ -149,7 +149,7 @@ stream-passes channel s ps e a b =
     accepts-exactly channel .0
     (record {
       length-is = right-length (length channel) (length ps) l a b;
-      kept = subst (λ (n : ℕ). Kept (judged channel) n) d (subst (λ (t : List ℕ). Kept (t ++ header) (length ps)) (sym e) (stream-kept s ps));
+      kept = subst (λ (n : ℕ). Kept (judged channel) n) d (subst (λ (t : List ℕ). Kept (t ++ syncHeaderBits) (length ps)) (sym e) (stream-kept s ps));
     })
 
 -- so are the bytes that a writer leaves for one to nine Sections, from any state

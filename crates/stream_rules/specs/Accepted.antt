@@ -7,7 +7,7 @@ use Prim.Native.Nat.{ℕ, _*_, _/_, _%_, _<_}
 use lib.Dec.{eqb}
 use lib.ListN.{length, drop}
 use Rattle.words.specs.RunRule.{runs}
-use Rattle.merging.specs.Rule.{header, starts}
+use Rattle.merging.specs.Rule.{syncHeaderBits, starts}
 use Rattle.channel_frame.specs.ChannelFrame.{wordRead}
 use Rattle.stream_rules.specs.Offences.{judged, rightWord}
 use Rattle.stream_rules.specs.Judging.{rightLength}
@@ -17,7 +17,7 @@ pub mod Exactly
 -- Control places of each Section, and a listed word in each other place
 pub record Kept (B : List ℕ) (n : ℕ) : Type 0 where
   pub runs-are : runs B ≡ true
-  pub headers-are : (p : ℕ) → p < length B → starts header (drop p B) ≡ eqb (p % 588) 0
+  pub headers-are : (p : ℕ) → p < length B → starts syncHeaderBits (drop p B) ≡ eqb (p % 588) 0
   pub words-are : (f i : ℕ) → f < 98 * n → i < 33 → rightWord (f % 98) i (wordRead B f i) ≡ true
 
 -- one to nine whole Sections that keep all this

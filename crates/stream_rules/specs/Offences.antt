@@ -7,7 +7,7 @@ use lib.Dec.{eqb, leb, ltb}
 use lib.ListN.{drop, replicate}
 use Rattle.bits.specs.Bits.{unpack}
 use Rattle.words.specs.Words.{words, placeOf, sync0, sync1}
-use Rattle.merging.specs.Rule.{header, starts}
+use Rattle.merging.specs.Rule.{syncHeaderBits, starts}
 use Rattle.fields.specs.Fields.{fieldAt}
 pub mod Stream
 pub mod Runs
@@ -17,7 +17,7 @@ pub mod Numbers
 
 -- the stream that is judged: the bits of the Sections, as if one more Sync Header followed the last
 abbrev pub judged : List ℕ → List ℕ
-judged channel = unpack channel ++ header
+judged channel = unpack channel ++ syncHeaderBits
 
 -- the bits ps stand from n bits before bit p on
 abbrev pub back : ℕ → List ℕ → List ℕ → ℕ → Bool
@@ -29,7 +29,7 @@ runOffends B p = back 1 (1 ∷ 1 ∷ []) B p || (back 2 (1 ∷ 0 ∷ 1 ∷ []) B
 
 -- a Sync Header: none begins at bit p, and 588 divides p; or one does, and 588 does not
 unfoldable pub headerOffends : List ℕ → ℕ → Bool
-headerOffends B p = cond (eqb (p % 588) 0) (not (starts header (drop p B))) (starts header (drop p B))
+headerOffends B p = cond (eqb (p % 588) 0) (not (starts syncHeaderBits (drop p B))) (starts syncHeaderBits (drop p B))
 
 -- w is a word of Annex D
 unfoldable pub listed : ℕ → Bool

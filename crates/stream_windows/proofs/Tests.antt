@@ -6,6 +6,7 @@ use Prim.Native.Nat.{ℕ, _/_, _%_, _^_}
 use borrow.Author.Tests.{ne-eqb, eq-eqb}
 use lib.Bits.{bitAnd, bitOr}
 use lib.Dec.{eqb}
+use Rattle.words.specs.Words.{syncHeader}
 use Rattle.stream_windows.specs.Calm.{tight, ones2, ones4, ones8, ones10, ones11, headless, calm, tripleCalm}
 
 -- ---- the joined numbers as the code has them
@@ -40,21 +41,21 @@ module _ (w e : ℕ) where
   calm-rest p q = sym (rw (eq-eqb (tight w) 0 p, eq-eqb (ones11 w / 2 ^ 24 % 16777216) 16777215 q))
 
 module _ (w u : ℕ) where
-  pub first-lost : u ≡ 0 → (w / 2 ^ 24 % 16777216 ≡ 8392706 → ⊥) → false ≡ tripleCalm w u
+  pub first-lost : u ≡ 0 → (w / 2 ^ 24 % 16777216 ≡ syncHeader → ⊥) → false ≡ tripleCalm w u
   unfolding tripleCalm
-  first-lost p q = sym (rw (eq-eqb u 0 p, ne-eqb (w / 2 ^ 24 % 16777216) 8392706 q))
+  first-lost p q = sym (rw (eq-eqb u 0 p, ne-eqb (w / 2 ^ 24 % 16777216) syncHeader q))
 
-  pub first-stands : (t : Bool) → u ≡ 0 → w / 2 ^ 24 % 16777216 ≡ 8392706 → t ≡ calm w 8388607 → t ≡ tripleCalm w u
+  pub first-stands : (t : Bool) → u ≡ 0 → w / 2 ^ 24 % 16777216 ≡ syncHeader → t ≡ calm w 8388607 → t ≡ tripleCalm w u
   unfolding tripleCalm
-  first-stands t p q e = e ∙ sym (rw (eq-eqb u 0 p, eq-eqb (w / 2 ^ 24 % 16777216) 8392706 q))
+  first-stands t p q e = e ∙ sym (rw (eq-eqb u 0 p, eq-eqb (w / 2 ^ 24 % 16777216) syncHeader q))
 
-  pub middle-lost : (u ≡ 0 → ⊥) → u ≡ 24 → (w / 2 ^ 12 % 16777216 ≡ 8392706 → ⊥) → false ≡ tripleCalm w u
+  pub middle-lost : (u ≡ 0 → ⊥) → u ≡ 24 → (w / 2 ^ 12 % 16777216 ≡ syncHeader → ⊥) → false ≡ tripleCalm w u
   unfolding tripleCalm
-  middle-lost n p q = sym (rw (ne-eqb u 0 n, eq-eqb u 24 p, ne-eqb (w / 2 ^ 12 % 16777216) 8392706 q))
+  middle-lost n p q = sym (rw (ne-eqb u 0 n, eq-eqb u 24 p, ne-eqb (w / 2 ^ 12 % 16777216) syncHeader q))
 
-  pub middle-stands : (t : Bool) → (u ≡ 0 → ⊥) → u ≡ 24 → w / 2 ^ 12 % 16777216 ≡ 8392706 → t ≡ calm w 16775167 → t ≡ tripleCalm w u
+  pub middle-stands : (t : Bool) → (u ≡ 0 → ⊥) → u ≡ 24 → w / 2 ^ 12 % 16777216 ≡ syncHeader → t ≡ calm w 16775167 → t ≡ tripleCalm w u
   unfolding tripleCalm
-  middle-stands t n p q e = e ∙ sym (rw (ne-eqb u 0 n, eq-eqb u 24 p, eq-eqb (w / 2 ^ 12 % 16777216) 8392706 q))
+  middle-stands t n p q e = e ∙ sym (rw (ne-eqb u 0 n, eq-eqb u 24 p, eq-eqb (w / 2 ^ 12 % 16777216) syncHeader q))
 
   pub other-calm : (t : Bool) → (u ≡ 0 → ⊥) → (u ≡ 24 → ⊥) → t ≡ calm w 16777215 → t ≡ tripleCalm w u
   unfolding tripleCalm

@@ -5,6 +5,7 @@ use mathlib.Core.Bool.{Bool, cond, _&&_}
 use Prim.Native.Nat.{ℕ, _/_, _%_, _^_}
 use lib.Bits.{bitAnd, bitOr}
 use lib.Dec.{eqb}
+use Rattle.words.specs.Words.{syncHeader}
 pub mod Digits
 pub mod Quiet
 pub mod Triples
@@ -45,6 +46,6 @@ calm w e = eqb (tight w) 0 && (eqb (ones11 w / 2 ^ 24 % 16777216) 16777215 && eq
 -- triple u of 49: a Sync Header begins with the first triple, and in the middle of the 25th
 unfoldable pub tripleCalm : ℕ → ℕ → Bool
 tripleCalm w u =
-    cond (eqb u 0) (eqb (w / 2 ^ 24 % 16777216) 0b100000000001000000000010 && calm w 0b011111111111111111111111)
-    (cond (eqb u 24) (eqb (w / 2 ^ 12 % 16777216) 0b100000000001000000000010 && calm w 0b111111111111011111111111)
+    cond (eqb u 0) (eqb (w / 2 ^ 24 % 16777216) syncHeader && calm w 0b011111111111111111111111)
+    (cond (eqb u 24) (eqb (w / 2 ^ 12 % 16777216) syncHeader && calm w 0b111111111111011111111111)
     (calm w 0b111111111111111111111111))

@@ -5,6 +5,7 @@ use mathlib.Core.List.{List, _++_}
 use Prim.Native.Nat.{ℕ, _+_, _-_, _/_, _%_}
 use lib.Dec.{eqb}
 use lib.ListN.{replicate}
+use Rattle.words.specs.Words.{syncHeader}
 use Rattle.fields.specs.Fields.{fieldAt}
 use Rattle.stream_rules.specs.Offences.{rightWord, wordPlace}
 use Rattle.stream_rules.specs.Judging.{lowest}
@@ -27,7 +28,7 @@ runIn v = eqb (v / 8388608 % 4) 3 || (eqb (v / 8388608 % 8) 5 || eqb (v / 838860
 
 -- a Sync Header begins in it
 abbrev pub headIn : ℕ → Bool
-headIn v = eqb (v % 16777216) 0b100000000001000000000010
+headIn v = eqb (v % 16777216) syncHeader
 
 -- one is missing at bit p, or extra
 abbrev pub headWrong : ℕ → ℕ → Bool

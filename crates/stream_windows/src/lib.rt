@@ -29,7 +29,7 @@ pub fn head_wrong(v: u64, p: usize) -> bool
 }
 
 // No run offends at the 24 bits in the middle of w, and a Sync Header can begin only where `places` has a ZERO.
-pub fn is_calm(w: u64, places: u64) -> bool
+fn is_calm(w: u64, places: u64) -> bool
     ensures { λ r. ⌜ r ≡ calm w places ⌝ }
 {
     if w & ((w >> 1) | (w >> 2)) != 0 {

@@ -3,8 +3,8 @@
 use mathlib.Core.List.{List, [], _∷_, _++_}
 use Prim.Native.Nat.{ℕ, zero, suc, _+_}
 use Rattle.address.specs.declared.HeaderTime.{HeaderTime}
-use Rattle.tally.specs.declared.Fate.{Fate}
-use Rattle.tally.specs.declared.Fate.the-variants.{Clean, Repaired, Refused}
+use Rattle.fate_counts.specs.declared.Fate.{Fate}
+use Rattle.fate_counts.specs.declared.Fate.the-variants.{Clean, Repaired, Refused}
 use Rattle.text.specs.Characters.{ascii}
 use Rattle.numerals.specs.Numerals.{decimal, hex}
 pub mod Examples

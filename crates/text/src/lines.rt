@@ -8,8 +8,8 @@ ghost use Rattle.numerals.specs.Numerals.{digit, decimal, hex};
 ghost use Rattle.text.specs.Report.{firstLine, timeText, fateText, fateLine, tailLine, lastLine};
 use crate::Text;
 use address::HeaderTime;
+use fate_counts::Fate;
 use numerals::hex_digit;
-use tally::Fate;
 
 // A text that says nothing yet.
 fn empty() -> Text

@@ -1,1 +1,2 @@
+-- an answer as a number and values for other languages
 pub mod Told

@@ -14,7 +14,7 @@ use Rattle.lists.specs.Agree.{same-front, same-back}
 use Rattle.rspc.specs.Place.One.{of-sector}
 use Rattle.rspc.specs.Put.{QPut, PutQ}
 use Rattle.sector.specs.Layout.{sync}
-use Rattle.trial.specs.Tried.{Freshen}
+use Rattle.trial.specs.Freshen.{Freshen}
 
 module _ (s y p : List ℕ) (k : Bool) (long : length s ≡ 2352) (e : y ≡ sync)
     (c : (k ≡ eqb (length y) (length (take 12 s))) × (p ≡ cond k y (take 12 s))) where

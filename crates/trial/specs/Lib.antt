@@ -1,2 +1,3 @@
--- what is tried of some bytes
+-- what is tried of some bytes, and that in place
 pub mod Tried
+pub mod Freshen

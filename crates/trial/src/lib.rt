@@ -1,5 +1,5 @@
 // What is tried of the bytes that P and Q protect: with Sync set and Q parity worked out afresh they may be a correct Sector.
-ghost use Rattle.trial.specs.Tried.{Freshen};
+ghost use Rattle.trial.specs.Freshen.{Freshen};
 
 // Sync is set, the Q parity is worked out afresh and the answer is true. Where there are not 2,352 bytes nothing changes and the answer is
 // false.

@@ -35,7 +35,7 @@ fn unknown_mark(w: u16, i: usize) -> u8
 pub fn read_word(table: &[u16; 256], guide: &[u8; 1351], w: u16, i: usize) -> Reading
     ensures { λ r. ⌜ (r .byte ≡ byteFor (lookedUp (now (table .entry)) (now (guide .entry)) w)) × (r .mark ≡ markFor (lookedUp (now (table .entry)) (now (guide .entry)) w) w i) ⌝ }
 {
-    let Symbol::Byte(b) = words::look_up(table, guide, w) else {
+    let Symbol::Byte(b) = looking_up::look_up(table, guide, w) else {
         let m = unknown_mark(w, i);
         return Reading { byte: 0, mark: m };
     };

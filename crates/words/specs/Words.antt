@@ -1,4 +1,5 @@
--- The 8-to-14 code of Annex D: a word of 14 Channel bits for each byte, with document 01's corrections for (48) to (6A).
+-- The 8-to-14 code of Annex D: a word of 14 Channel bits for each byte, with document 01's corrections for (48) to (6A); SYNC 0, SYNC 1 and the Sync
+-- Header (clauses 19.1 and 19.2).
 -- Assumes nothing.
 use mathlib.Core.Bool.{cond}
 use mathlib.Core.List.{List, [], _∷_}
@@ -57,6 +58,11 @@ sync0 = 0b00100000000001
 
 abbrev pub sync1 : ℕ
 sync1 = 0b00000000010010
+
+-- the Sync Header, the 24 bits that a Channel Frame begins with (clause 19.2; Annex E prints it with 22 digits: with nine ZEROs in each of its two
+-- runs, and not ten)
+abbrev pub syncHeader : ℕ
+syncHeader = 0b100000000001000000000010
 
 -- the place of w in a list, or the list's length where it is not there
 abbrev pub placeOf : ℕ → List ℕ → ℕ

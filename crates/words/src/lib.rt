@@ -1,8 +1,7 @@
-// The 8-to-14 code of Annex D: the word of a byte and the byte of a word.
+// The 8-to-14 code of Annex D: the words, and a guide to the byte of a word.
 ghost use mathlib.Core.Path.{_≡_};
-ghost use Prim.Native.Nat.{_<_};
-ghost use Rattle.words.specs.Words.{words, wordOf, byteOf};
-ghost use Rattle.words.specs.LookUp.{Guide, lookedUp};
+ghost use Rattle.words.specs.Words.{words};
+ghost use Rattle.words.specs.LookUp.{Guide};
 
 mod table;
 
@@ -24,42 +23,4 @@ pub fn guide() -> [u8; 1351]
     ensures { λ r. ⌜ Guide r ⌝ }
 {
     table::GUIDE
-}
-
-// A byte as a place of the table.
-fn place(b: u8) -> usize
-    ensures { λ r. ⌜ (r ≡ b) × (r < 256) ⌝ }
-{
-    b as usize
-}
-
-// The byte whose word w is, in any table and by any guide to it.
-pub fn look_up(words: &[u16; 256], guide: &[u8; 1351], w: u16) -> Symbol
-    ensures { λ r. ⌜ r ≡ lookedUp (now (words .entry)) (now (guide .entry)) w ⌝ }
-{
-    let slot = (w % 1351) as usize;
-    let b = guide[slot];
-    let i = place(b);
-    if words[i] == w {
-        return Symbol::Byte(b);
-    }
-    Symbol::Unknown
-}
-
-// The word of a byte.
-pub fn word_of(b: u8) -> u16
-    ensures { λ r. ⌜ r ≡ wordOf b ⌝ }
-{
-    let words = all_words();
-    let i = b as usize;
-    words[i]
-}
-
-// The byte of a word.
-pub fn byte_of(w: u16) -> Symbol
-    ensures { λ r. ⌜ r ≡ byteOf w ⌝ }
-{
-    let words = all_words();
-    let guide = guide();
-    look_up(&words, &guide, w)
 }

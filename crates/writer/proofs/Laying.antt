@@ -70,11 +70,12 @@ module _ (mode : ℕ) (time : HeaderTime) (user : List ℕ) (h : isWritten mode 
 
   -- a mode has room for its user data
   pub room : length user ≤ 2336
-  room = subst (λ (n : ℕ). n ≤ 2336) (sym fits) (at (eqb mode 1))
+  room = subst (λ (n : ℕ). n ≤ 2336) (sym fits) (at (eqb mode 1) (eqb mode 2))
     where
-      at : (b : Bool) → cond b 2048 2336 ≤ 2336
-      at true = omega arith
-      at false = omega arith
+      at : (a b : Bool) → cond a 2048 (cond b 2336 0) ≤ 2336
+      at true b = omega arith
+      at false true = omega arith
+      at false false = omega arith
 
   after-front : drop 16 (laid mode time user) ≡ user ++ zeros (2336 - length user)
   after-front = drop-at (front mode time) (user ++ zeros (2336 - length user)) 16 length-front

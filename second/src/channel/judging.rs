@@ -1,7 +1,7 @@
 //! Document 02, 12: judging Sections that somebody else wrote, as if one more Sync Header followed the last.
 
 use super::merging::headers;
-use super::words::{words, SYNC_0, SYNC_1, SYNC_HEADER};
+use super::words::{byte_of, SYNC_0, SYNC_1, SYNC_HEADER};
 use super::{unpack, FRAMES, PACKED};
 use crate::refusal::{Refusal, Refusal::*};
 
@@ -33,7 +33,6 @@ fn misplaced_headers(stream: &[u8]) -> Vec<Refusal> {
 
 /// A word that is not listed, or no SYNC in one of a Section's first two Control places.
 fn wrong_words(stream: &[u8]) -> Vec<Refusal> {
-    let words = words();
     let mut offences = Vec::new();
     for frame in 0..stream.len() / 588 {
         for place in 0..33 {
@@ -42,7 +41,7 @@ fn wrong_words(stream: &[u8]) -> Vec<Refusal> {
             let right = match (frame % FRAMES, place) {
                 (0, 0) => found == SYNC_0,
                 (1, 0) => found == SYNC_1,
-                _ => words.iter().any(|word| word == found),
+                _ => byte_of(found).is_some(),
             };
             if !right {
                 offences.push(WrongWord { bit });

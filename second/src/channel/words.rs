@@ -1,6 +1,7 @@
 //! ECMA-130, clauses 19.1 and 19.2 and Annex D; document 01, Channel bits: words, SYNC 0 and 1, Sync Header.
 
 use super::annex_d::PRINTED;
+use std::sync::LazyLock;
 
 /// 14 Channel bits, each 0 or 1, in the order in which they are sent.
 pub type Word = [u8; 14];
@@ -34,7 +35,7 @@ fn moved(mut word: Vec<u8>, from: usize, to: usize) -> Vec<u8> {
 }
 
 /// The words of all 256 bytes, with (48) to (6A) as document 01 has them.
-pub fn words() -> Vec<Word> {
+fn corrected() -> Vec<Word> {
     let mut words = printed();
     for byte in 0x48..=0x57 {
         words[byte] = words[byte - 0x40].clone();
@@ -48,6 +49,30 @@ pub fn words() -> Vec<Word> {
     }
     words[0x66] = digits("01000000100100");
     words.into_iter().map(|word| word.try_into().expect("14 digits")).collect()
+}
+
+static WORDS: LazyLock<Vec<Word>> = LazyLock::new(corrected);
+
+/// For each number of 14 digits the byte whose word it is, if there is one.
+static BYTES: LazyLock<Vec<Option<u8>>> = LazyLock::new(|| {
+    let mut bytes = vec![None; 1 << 14];
+    for (byte, word) in words().iter().enumerate() {
+        bytes[number(word)] = Some(byte as u8);
+    }
+    bytes
+});
+
+fn number(word: &[u8]) -> usize {
+    word.iter().fold(0, |number, &digit| 2 * number + digit as usize)
+}
+
+pub fn words() -> &'static [Word] {
+    &WORDS
+}
+
+/// The byte whose word these 14 digits are.
+pub fn byte_of(word: &[u8]) -> Option<u8> {
+    BYTES[number(word)]
 }
 
 #[cfg(test)]
@@ -73,17 +98,25 @@ mod tests {
     }
 
     #[test]
+    fn a_word_is_known_by_its_byte() {
+        for byte in 0..=255 {
+            assert_eq!(byte_of(&words()[byte as usize]), Some(byte));
+        }
+        assert_eq!(BYTES.iter().flatten().count(), 256);
+    }
+
+    #[test]
     fn facts_of_all_256() {
         let words = words();
         assert_eq!(words.len(), 256);
-        let mut different = words.clone();
+        let mut different = words.to_vec();
         different.sort();
         different.dedup();
         assert_eq!(different.len(), 256);
         assert!(!words.contains(&SYNC_0) && !words.contains(&SYNC_1));
         for word in words {
             assert!(word.contains(&1));
-            assert!(runs(&word).iter().all(|run| (2..=10).contains(run)));
+            assert!(runs(word).iter().all(|run| (2..=10).contains(run)));
         }
     }
 

@@ -37,9 +37,7 @@ pub fn read_frame(frame: &[u8], main: &mut [u8]) -> Told<13> {
 
 /// Of the first four numbers 1 is a ONE.
 pub fn write_frame(fields: [u8; 13], main: &[u8], out: &mut [u8]) -> u8 {
-    unsafe {
-        road_write_frame(&fields, main.as_ptr(), main.len(), out.as_mut_ptr(), out.len())
-    }
+    unsafe { road_write_frame(&fields, main.as_ptr(), main.len(), out.as_mut_ptr(), out.len()) }
 }
 
 pub fn carry(frames: &[u8], start: [u8; 3], out: &mut [u8]) -> u8 {

@@ -1,6 +1,5 @@
 //! Clause 14 and Annex A.
 
-mod judging;
 mod layout;
 mod repairing;
 mod salvaging;

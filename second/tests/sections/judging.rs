@@ -1,7 +1,7 @@
 //! Judging: our writer's Sections and a partner's, and streams in which one thing is wrong.
 
-use crate::partner::*;
-use crate::*;
+use super::partner::*;
+use super::*;
 use second::channel::merging::{
     headers, keeps_the_run_rule, Merging, BEFORE_A_HEADER, BEFORE_A_WORD,
 };

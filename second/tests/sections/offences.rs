@@ -1,7 +1,7 @@
 //! Judging: one offence or more of each kind at any place of a partner's Sections.
 
-use crate::partner::*;
-use crate::*;
+use super::partner::*;
+use super::*;
 use second::channel::words::{SYNC_0, SYNC_1, SYNC_HEADER};
 
 /// A bit of the stream: anywhere, about the borders of Sections, at the beginning or at the very end.

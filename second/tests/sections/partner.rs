@@ -1,6 +1,6 @@
 //! Streams that a partner could have written, and others that keep most rules.
 
-use crate::*;
+use super::*;
 use second::channel::judging::judge_sections;
 use second::channel::merging::{allowed, Merging, BEFORE_A_HEADER, BEFORE_A_WORD};
 use second::channel::words::{words, Word, SYNC_0, SYNC_1, SYNC_HEADER};

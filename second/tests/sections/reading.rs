@@ -1,6 +1,7 @@
 //! Reading: damaged bits, lost Sync Headers, SYNCs and words out of place, and lengths.
 
-use crate::*;
+use super::*;
+use crate::of_lengths;
 
 fn flip(channel: &mut [u8], bit: usize) {
     channel[bit / 8] ^= 0x80 >> (bit % 8);
@@ -117,7 +118,9 @@ fn lengths() {
     for incoming in [0, 1, 7202, 7203, 7204] {
         for bytes in [0, 3233, 3234, 3235] {
             for marks in [0, 3233, 3234, 3235, 7203] {
-                same_read(&channel[..incoming], [bytes, marks]);
+                let (answer, _) = same_read(&channel[..incoming], [bytes, marks]);
+                let right = [bytes, marks] == [READ_BYTES; 2];
+                assert_eq!(answer, of_lengths(incoming == PACKED, right));
             }
         }
     }

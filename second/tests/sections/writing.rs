@@ -1,6 +1,7 @@
 //! Writing: bytes of every kind, and states at the edges of refusals 9 and 7.
 
-use crate::*;
+use super::*;
+use crate::of_lengths;
 
 /// From the state on; and what was written is read back on both sides.
 fn there_and_back(state: &mut SectionWriter, frames: &[u8], control: &[u8]) {
@@ -72,21 +73,27 @@ fn states() {
     assert!(met[0] >= 40 && met[7] >= 10 && met[9] >= 100, "{met:?}");
 }
 
-/// Refusals 1 and 2 in their order; the state is handed back as it was, possible or not.
+/// Refusals 1 and 2 in their order, before those of the state, which is handed back as it was, possible or not.
 #[test]
 fn lengths() {
     let mut random = Random::new(4);
     let states = [
-        SectionWriter::new(),
-        SectionWriter { level: 1, dsv: -40, count: 450_000 },
-        SectionWriter { level: 0, dsv: 1, count: 0 },
+        (0, SectionWriter::new()),
+        (7, SectionWriter { level: 1, dsv: -40, count: 450_000 }),
+        (9, SectionWriter { level: 0, dsv: 1, count: 0 }),
     ];
     for frames in [0, 32, 3135, 3136, 3137, 3232] {
         for control in [0, 95, 96, 97, 98] {
             for out in [0, 7202, 7203, 7204, 8000] {
-                for mut state in states {
+                for (number, before) in states {
+                    let expected = match of_lengths([frames, control] == [3136, 96], out == 7203) {
+                        0 => number,
+                        refusal => refusal,
+                    };
+                    let mut state = before;
                     let (frames, control) = (random.bytes(frames), random.bytes(control));
-                    same_written(&mut state, &frames, &control, out);
+                    assert_eq!(same_written(&mut state, &frames, &control, out).0, expected);
+                    assert_eq!(state == before, expected != 0);
                 }
             }
         }

@@ -1,6 +1,6 @@
 //! Batches of 1 to 16 Sectors (document 02, 2): the proved batch against the proved single calls and against this program's batch.
 
-use crate::{sector, set_parity};
+use super::{sector, set_parity};
 use second::proved::{self, Told};
 use second::random::Random;
 use second::sector::*;

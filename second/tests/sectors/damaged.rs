@@ -1,6 +1,6 @@
 //! Judging and repair of Sectors that are clean or damaged, proved against this program: 10,000 cases.
 
-use crate::{same_judged_and_repaired, sector, set_parity};
+use super::{same_judged_and_repaired, sector, set_parity};
 use second::random::Random;
 use second::sector::{p_positions, LENGTH, P_CODEWORDS};
 

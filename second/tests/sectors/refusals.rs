@@ -1,7 +1,6 @@
 //! Writing Sectors, and refusals 1 to 4 of writing, judging and repair, proved against this program.
 
-use crate::*;
-use second::refusal::Refusal;
+use super::*;
 
 #[test]
 fn written() {
@@ -10,7 +9,8 @@ fn written() {
         let mode = 1 + (n % 2) as u8;
         let data = random.bytes(data_length(mode).unwrap());
         let address = random.address();
-        let sector = same_written(mode, address, &data, LENGTH);
+        let (answer, sector) = same_written(mode, address, &data, LENGTH);
+        assert_eq!(answer, 0);
         assert_eq!(judge(&sector), Ok(Passed { mode, address }));
     }
 }
@@ -20,9 +20,10 @@ fn written() {
 fn empty_sectors() {
     let mut random = Random::new(5);
     for length in [0, 1, 2048, 2336] {
-        assert_eq!(same_written(0, random.address(), &vec![0; length], LENGTH), [0; LENGTH]);
-        let mut out = [0xAA; LENGTH];
-        assert_eq!(proved::write(0, [0xFF; 3], &vec![0; length], &mut out), 3);
+        for address in [random.address(), [0xFF; 3]] {
+            let written = same_written(0, address, &vec![0; length], LENGTH);
+            assert_eq!(written, (3, vec![0; LENGTH]));
+        }
     }
     for _ in 0..100 {
         let [minute, second, frame] = random.address();
@@ -49,13 +50,12 @@ fn every_mode_and_any_address() {
 /// An address is accepted or refused by writing, judging and repair alike.
 fn by_all_three(address: [u8; 3], accepted: bool) {
     let data = [0x5A; 2048];
-    assert_eq!(same_written(1, address, &data, LENGTH) != [0; LENGTH], accepted);
-    let mut sector = same_written(1, [0x99, 0x59, 0x74], &data, LENGTH);
+    assert_eq!(same_written(1, address, &data, LENGTH).0, if accepted { 0 } else { 4 });
+    let (_, mut sector) = same_written(1, [0x99, 0x59, 0x74], &data, LENGTH);
     sector[12..15].copy_from_slice(&address);
     seal(&mut sector);
-    let judged = judge(&sector).map(|_| ());
-    assert_eq!(judged, if accepted { Ok(()) } else { Err(Refusal::WrongAddress) });
-    assert_eq!(same_judged_and_repaired(&sector).is_some(), accepted);
+    assert_eq!(same_judged(&sector).number, if accepted { 0 } else { 4 });
+    assert_eq!(same_repaired(&sector, LENGTH).is_some(), accepted);
 }
 
 /// Document 01, Figures to meet, as document 02 §1 amends them: each of these alone.
@@ -95,6 +95,42 @@ fn every_byte_of_an_address() {
             received[12 + at] = byte;
             same_judged_and_repaired(&received);
         }
+    }
+}
+
+/// Every set of the writer's four faults, with Mode 00 and with a mode that is none: the first in the order 2, 3, 1, 4 is the answer.
+#[test]
+fn order_of_the_writer() {
+    for wrong_mode in [0, 3] {
+        for set in 1..16 {
+            let has = |fault: usize| set >> fault & 1 == 1;
+            let out_length = if has(0) { 2351 } else { 2352 };
+            let mode = if has(1) { wrong_mode } else { 1 };
+            let data = vec![7; if has(2) { 2047 } else { 2048 }];
+            let address = if has(3) { [0x00, 0x60, 0x00] } else { [0x12, 0x34, 0x56] };
+            let first = (0..4).find(|&fault| has(fault)).expect("a fault");
+            let left = vec![if has(0) { 0xAA } else { 0x00 }; out_length];
+            let written = same_written(mode, address, &data, out_length);
+            assert_eq!(written, ([2, 3, 1, 4][first], left), "{set:b}");
+        }
+    }
+}
+
+/// Every set of the faults of repair: the first in the order 1, 2, 5.
+#[test]
+fn order_of_repair() {
+    let clean = sector(&mut Random::new(6), 1);
+    for set in 1..8 {
+        let has = |fault: usize| set >> fault & 1 == 1;
+        let mut received = if has(2) { vec![0; LENGTH] } else { clean.clone() };
+        received.truncate(if has(0) { 2351 } else { 2352 });
+        let out_length = if has(1) { 2353 } else { 2352 };
+        let first = (0..3).find(|&fault| has(fault)).expect("a fault");
+        assert_eq!(same_repaired(&received, out_length), None);
+        let mut out = vec![0xAA; out_length];
+        let told = proved::repair(&received, &mut out);
+        assert_eq!(told, Told { number: [1, 2, 5][first], values: [0] }, "{set:b}");
+        assert_eq!(out, vec![if has(1) { 0xAA } else { 0x00 }; out_length]);
     }
 }
 

@@ -5,7 +5,7 @@ use mathlib.Core.Bool.{Bool, true, false, _&&_}
 use Prim.Native.Nat.{ℕ, _/_, _%_, _≤_, _<_}
 use native.Mathlib.Nat.{div-zero}
 use native.Mathlib.Omega.{arith}
-use borrow.Author.Tests.{eq-eqb, ne-eqb, eqb-true, lt-ltb, le-ltb, ltb-true, le-leb, lt-leb, leb-true}
+use borrow.Author.Tests.{eq-eqb, ne-eqb, eqb-true, lt-ltb, le-ltb, le-leb, lt-leb, leb-true}
 use lib.Dec.{T, eqb, ltb, leb}
 use Rattle.outcome.specs.Table.Entries.{and-left, and-right, true-of, of-true}
 use Rattle.alignment.specs.Row.{isRow}
@@ -15,7 +15,7 @@ and-false true = refl
 and-false false = refl
 
 module _ (size most bytes : ℕ) where
-  -- a row has whole things, one at least and `most` at most
+  -- a row has whole things, `most` at most
   pub row-whole : isRow size most bytes ≡ true → bytes % size ≡ 0
   unfolding isRow
   row-whole e = eqb-true (bytes % size) 0 (true-of (eqb (bytes % size) 0) (and-left (eqb (bytes % size) 0) (ltb 0 (bytes / size) && leb (bytes / size) most) (of-true (isRow size most bytes) e)))
@@ -23,9 +23,6 @@ module _ (size most bytes : ℕ) where
   rest : isRow size most bytes ≡ true → T (ltb 0 (bytes / size) && leb (bytes / size) most)
   unfolding isRow
   rest e = and-right (eqb (bytes % size) 0) (ltb 0 (bytes / size) && leb (bytes / size) most) (of-true (isRow size most bytes) e)
-
-  pub row-some : isRow size most bytes ≡ true → 0 < bytes / size
-  row-some e = ltb-true 0 (bytes / size) (true-of (ltb 0 (bytes / size)) (and-left (ltb 0 (bytes / size)) (leb (bytes / size) most) (rest e)))
 
   pub row-most : isRow size most bytes ≡ true → bytes / size ≤ most
   row-most e = leb-true (bytes / size) most (true-of (leb (bytes / size) most) (and-right (ltb 0 (bytes / size)) (leb (bytes / size) most) (rest e)))

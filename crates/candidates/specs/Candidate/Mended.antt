@@ -11,17 +11,18 @@ use lib.ListN.{length}
 use Rattle.outcome.specs.Bytes.{Bytes}
 use Rattle.outcome.specs.Table.Entries.{below, all-below, true-of, of-true}
 use Rattle.codeword.specs.Code.{Near}
-use Rattle.codeword.specs.Nearest.{nearest}
+use Rattle.codeword.specs.Nearest.{nearest, foundOr, isFound}
 use Rattle.codeword.specs.Nearest.Finds.{nearest-sound, nearest-complete}
 use Rattle.rspc.specs.Words.{pWord}
 use Rattle.rspc.specs.Words.P.{length-p, p-same, bytes-p}
 use Rattle.rspc.specs.declared.Parity.the-variants.{P}
-use Rattle.rspc.specs.Pass.{foundOr, isFound, handedOn, eachNear, Passed}
+use Rattle.rspc.specs.Pass.{afterPass, Passed}
+use Rattle.rspc.specs.PassInPlace.{eachNear}
 use Rattle.candidates.specs.Candidate.{Made, Candidate}
 
 -- ---- a codeword that was found is near, and one that is near is found
 
-found-near : (w : List ℕ) → Bytes w → T (isFound (nearest 2 w)) → Near 2 w (handedOn w)
+found-near : (w : List ℕ) → Bytes w → T (isFound (nearest 2 w)) → Near 2 w (afterPass w)
 found-near w h t = go (nearest 2 w) refl t
   where
     go : (o : Option (List ℕ)) → nearest 2 w ≡ o → T (isFound o) → Near 2 w (foundOr w o)

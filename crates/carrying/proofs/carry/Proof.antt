@@ -3,7 +3,7 @@
 use mathlib.Core.Path.{sym, _∙_}
 use native.Mathlib.Omega.{arith}
 use borrow.Author.Tests.{not-false}
-use Rattle.counting.specs.Count.Bytes.{and-both}
+use Rattle.address_counting.specs.Count.Bytes.{and-both}
 use Rattle.carrying.proofs.WaysOut.{ways, on-done}
 use borrow.Author.Needs.{needs}
 use Rattle.carrying.proofs.carry.Statement.{statement}

@@ -6,7 +6,7 @@ use Prim.Native.Nat.{ℕ, _<_}
 use lib.ListN.{length}
 use Rattle.outcome.specs.Say.{Say, done}
 use Rattle.address.specs.declared.HeaderTime.{HeaderTime}
-use Rattle.counting.specs.Count.{after}
+use Rattle.address_counting.specs.Count.{after}
 use Rattle.data_frame.specs.DataFrame.{mainData}
 use Rattle.sector.specs.Correct.{CorrectMode01}
 use Rattle.modes.specs.Modes.{isWritten}
@@ -16,11 +16,7 @@ use Rattle.writer.specs.Write.Judged.{written-asked}
 use Rattle.repair.specs.Repair.{Repairs}
 use Rattle.repair.specs.Repair.Clean.{certificate-given}
 use Rattle.batch.specs.Sectors.{sectorAt}
-use Rattle.carrying.specs.Carry.{frameAt, Carried, Carries, carries}
-
--- what is in the buffer where carrying over is done
-pub when-carried : {w : List ℕ} {start : HeaderTime} {old new : List ℕ} → Carries w start old (done []) new → (k : ℕ) × Carried k w start new
-when-carried (carries {k} g l e c) = (k, c)
+use Rattle.carrying.specs.Carry.{frameAt, Carried}
 
 module _ {k : ℕ} {w : List ℕ} {start : HeaderTime} {new : List ℕ} (c : Carried k w start new) (i : ℕ) (h : i < k) where
   -- what `write` leaves for that address and Main Data is that Sector

@@ -1,18 +1,15 @@
 -- The bytes of a frame and their marks depend on its own 588 bits, and on no other frame's.
 -- Assumes nothing.
-use mathlib.Core.Path.{_≡_, sym, ap, ap₂, _∙_}
-use mathlib.Core.Bool.{Bool, cond, not}
+use mathlib.Core.Path.{_≡_, sym, ap, _∙_}
 use mathlib.Core.List.{List, [], _∷_}
 use Prim.Native.Nat.{ℕ, zero, suc, _+_, _*_, _≤_, _<_}
 use native.Mathlib.Omega.{arith}
-use lib.Dec.{eqb}
 use lib.ListN.{take, drop}
 use lib.Seq.{drop-drop, take-nil, take-take}
 use Rattle.bits.specs.Bits.{number}
-use Rattle.words.specs.Words.{byteOf}
 use Rattle.fields.specs.Fields.{fieldAt}
-use Rattle.word_marks.specs.Marks.{byteFor, markFor}
-use Rattle.channel_frame.specs.ChannelFrame.{frameBits, headless, wordRead, frameByte, frameMark}
+use Rattle.channel_frame.specs.ChannelFrame.{frameBits, wordRead, frameByte, frameMark}
+use Rattle.channel_frame.specs.ChannelFrame.Merging.{byte-by-words, mark-by-words}
 
 -- a field that lies within the first m bits
 within : (k n m : ℕ) (l : List ℕ) → k + n ≤ m → take n (drop k (take m l)) ≡ take n (drop k l)
@@ -31,10 +28,10 @@ module _ (a b : List ℕ) (f : ℕ) (same : frameBits a f ≡ frameBits b f) whe
   same-field : (k n : ℕ) → k + n ≤ 588 → fieldAt a (588 * f + k) n ≡ fieldAt b (588 * f + k) n
   same-field k n h = own-field a f k n h ∙ ap (λ (l : List ℕ). fieldAt l k n) same ∙ sym (own-field b f k n h)
 
-  same-header : headless a f ≡ headless b f
+  same-header : fieldAt a (588 * f) 24 ≡ fieldAt b (588 * f) 24
   same-header =
       let e : 588 * f + 0 ≡ 588 * f = omega arith in
-      ap (λ (v : ℕ). not (eqb v 8392706)) (ap (λ (p : ℕ). fieldAt a p 24) (sym e) ∙ same-field 0 24 (omega arith) ∙ ap (λ (p : ℕ). fieldAt b p 24) e)
+      ap (λ (p : ℕ). fieldAt a p 24) (sym e) ∙ same-field 0 24 (omega arith) ∙ ap (λ (p : ℕ). fieldAt b p 24) e
 
   same-word : (i : ℕ) → i < 33 → wordRead a f i ≡ wordRead b f i
   same-word i h =
@@ -43,8 +40,8 @@ module _ (a b : List ℕ) (f : ℕ) (same : frameBits a f ≡ frameBits b f) whe
 
   -- they are read to the same byte at each place of frame f, whatever stands in all other frames
   pub same-byte : (i : ℕ) → i < 33 → frameByte a f i ≡ frameByte b f i
-  same-byte i h = ap₂ (λ (t : Bool) (w : ℕ). cond t 0 (byteFor (byteOf w))) same-header (same-word i h)
+  same-byte = byte-by-words a b f same-header same-word
 
   -- and to the same mark
   pub same-mark : (i : ℕ) → i < 33 → frameMark a f i ≡ frameMark b f i
-  same-mark i h = ap₂ (λ (t : Bool) (w : ℕ). cond t 4 (markFor (byteOf w) w i)) same-header (same-word i h)
+  same-mark = mark-by-words a b f same-header same-word

@@ -12,14 +12,14 @@ use borrow.Author.Tests.{eq-eqb, ne-eqb, le-leb, lt-leb}
 use Rattle.outcome.specs.Bytes.{Bytes}
 use Rattle.outcome.specs.First.Found.{lt-or-le}
 use Rattle.codeword.specs.Code.{weight}
-use Rattle.codeword.specs.Nearest.{nearest}
+use Rattle.codeword.specs.Nearest.{nearest, foundOr}
 use Rattle.codeword.specs.Nearest.Finds.{nearest-code}
 use Rattle.erasures.specs.Agrees.{Agrees}
 use Rattle.erasures.specs.Agrees.Unmarked.{agrees-unmarked}
-use Rattle.erasures.specs.Agreeing.{agreeing, handedOn}
+use Rattle.erasures.specs.Agreeing.{agreeing}
 use Rattle.erasures.specs.Agreeing.Exact.{agreeing-sound, agreeing-complete, agreeing-none}
 use Rattle.circ.specs.Codes.Corrected.{length-corrected, bytes-corrected}
-use Rattle.circ.specs.Codes.{markOf, corrected, lost, foundFor, treated, doubted}
+use Rattle.circ.specs.Codes.{markOf, corrected, wordMark, foundFor, treated, doubted}
 
 -- what is handed on, and its mark, where it is known what is found
 pub record Treats (most : ℕ) (m w : List ℕ) (c : List ℕ) (mark : ℕ) : Type 0 where
@@ -35,17 +35,17 @@ positive m n = by (lt-or-le 0 (weight m))
     by (inr p) = absurd (n (omega arith))
 
 module _ (most : ℕ) (m w : List ℕ) where
-  by-found : (o : Option (List ℕ)) → foundFor most m w ≡ o → Treats most m w (handedOn w o) (markOf o)
+  by-found : (o : Option (List ℕ)) → foundFor most m w ≡ o → Treats most m w (foundOr w o) (markOf o)
   unfolding treated doubted
-  by-found o e = record { hands-on = ap (handedOn w) e; marks = ap markOf e }
+  by-found o e = record { hands-on = ap (foundOr w) e; marks = ap markOf e }
 
   -- no marks: as without marks
   pub found-unmarked : weight m ≡ 0 → foundFor most m w ≡ nearest 4 w
   unfolding foundFor
   found-unmarked z = rw (eq-eqb (weight m) 0 z)
 
-  pub treats-unmarked : weight m ≡ 0 → Treats most m w (corrected w) (lost w)
-  unfolding corrected lost
+  pub treats-unmarked : weight m ≡ 0 → Treats most m w (corrected w) (wordMark w)
+  unfolding corrected wordMark
   treats-unmarked z = by-found (nearest 4 w) (found-unmarked z)
 
   -- some marks, and not too many: the codeword that agrees
@@ -105,17 +105,17 @@ module _ (most : ℕ) (m w : List ℕ) where
   -- a word keeps its length
   pub length-treated : length (treated most m w) ≡ length w
   unfolding treated corrected
-  length-treated = found-cases (λ o. length (handedOn w o) ≡ length w) (length-corrected w) (go (agreeing m w) refl) refl
+  length-treated = found-cases (λ o. length (foundOr w o) ≡ length w) (length-corrected w) (go (agreeing m w) refl) refl
     where
-      go : (o : Option (List ℕ)) → agreeing m w ≡ o → length (handedOn w o) ≡ length w
+      go : (o : Option (List ℕ)) → agreeing m w ≡ o → length (foundOr w o) ≡ length w
       go (some c) e = agreeing-sound m w c e .long
       go none e = refl
 
   -- bytes stay bytes
   pub bytes-treated : Bytes w → Bytes (treated most m w)
   unfolding treated corrected
-  bytes-treated bytes = found-cases (λ o. Bytes (handedOn w o)) (bytes-corrected w bytes) (go (agreeing m w) refl) bytes
+  bytes-treated bytes = found-cases (λ o. Bytes (foundOr w o)) (bytes-corrected w bytes) (go (agreeing m w) refl) bytes
     where
-      go : (o : Option (List ℕ)) → agreeing m w ≡ o → Bytes (handedOn w o)
+      go : (o : Option (List ℕ)) → agreeing m w ≡ o → Bytes (foundOr w o)
       go (some c) e = agreeing-sound m w c e .bytes
       go none e = bytes

@@ -9,13 +9,13 @@ use native.Mathlib.Nat.{not-suc-le-zero, le-of-suc-le-suc}
 use native.Mathlib.Omega.{arith}
 use lib.Dec.{eqb}
 use lib.ListN.{length, getD}
-use Rattle.outcome.specs.Say.{Say, done, refused, demand, oneThenTwo}
+use Rattle.outcome.specs.Say.{Say, done, refused, oneThenTwo, leaves}
 use Rattle.calls.specs.Step.{Step, step, isDone, handedBack, stepOf}
 use Rattle.calls.specs.Calls.{run, doneOf}
 use Rattle.rings.specs.Rings.{below, onward}
 use Rattle.rings.specs.Rings.Places.{still-below}
 use Rattle.circ.specs.Step.{stepped}
-use Rattle.circ.specs.Rings.{Rings, ringsAt, turned}
+use Rattle.circ.specs.Rings.{Rings, ringsAt, lastly, turned}
 
 -- a step seen as one of the lines that the rings stand for
 abbrev pub asLines : Step Rings → Step (List ℕ)
@@ -31,9 +31,14 @@ done-as-lines (t ∷ ts) = by (isDone (t .say)) (done-as-lines ts)
     by true e = ap (λ (l : List (Step (List ℕ))). asLines t ∷ l) e
     by false e = e
 
+-- a last demand that is met leaves what is said
+lastly-met : (say : Say) (test : Bool) (n : ℕ) → test ≡ true → lastly say test n ≡ say
+lastly-met (done vs) test n e = rw e
+lastly-met (refused m vs) test n e = refl
+
 -- whatever is said
 by-say : (say : Say) (outgoing : ℕ) (new places next : List ℕ) (s : Rings) (old : List ℕ)
-    → asLines (stepOf say outgoing new (ringsAt places next) s old) ≡ stepOf say outgoing new next (s .line) old
+    → asLines (stepOf say outgoing (leaves say outgoing new old) (ringsAt places (handedBack say next (s .line))) s old) ≡ stepOf say outgoing new next (s .line) old
 by-say (done vs) outgoing new places next s old = refl
 by-say (refused n vs) outgoing new places next s old = refl
 
@@ -53,19 +58,20 @@ module _ {C : Type 0} (ws : List ℕ) (outgoing : ℕ) (fits : C → Bool) (valu
   shifting l c = stepped (fits c) outgoing (values l c) (new l c) (next l c) l (old c)
 
   abbrev turning : Rings → C → Step Rings
-  turning s c = turned ws (fits c) outgoing (values (s .line) c) (new (s .line) c) (next (s .line) c) s (old c)
+  turning s c = turned ws outgoing s (old c) (shifting (s .line) c)
 
   module _ (s : Rings) (c : C) (legal : below ws (s .places) ≡ true) where
-    says : turning s c .say ≡ oneThenTwo (fits c) (eqb (length (old c)) outgoing) (done (values (s .line) c))
-    says = ap (λ (b : Bool). oneThenTwo (fits c) (eqb (length (old c)) outgoing) (demand b 6 (done (values (s .line) c)))) legal
+    says : turning s c .say ≡ shifting (s .line) c .say
+    says = lastly-met (shifting (s .line) c .say) (below ws (s .places)) 6 legal
 
-    one-alike : asLines (turning s c) ≡ shifting (s .line) c
+    -- from legal places a step in rings is the step of their line
+    pub one-alike : asLines (turning s c) ≡ shifting (s .line) c
     one-alike =
-        by-say (turning s c .say) outgoing (new (s .line) c) (onward ws (s .places)) (next (s .line) c) s (old c)
-        ∙ ap (λ (say : Say). stepOf say outgoing (new (s .line) c) (next (s .line) c) (s .line) (old c)) says
+        ap (λ (say : Say). asLines (stepOf say outgoing (shifting (s .line) c .out) (ringsAt (onward ws (s .places)) (shifting (s .line) c .next)) s (old c))) says
+        ∙ by-say (shifting (s .line) c .say) outgoing (new (s .line) c) (onward ws (s .places)) (next (s .line) c) s (old c)
 
     stays : below ws (turning s c .next .places) ≡ true
-    stays = handed-below (turning s c .say) ws (next (s .line) c) s legal
+    stays = handed-below (turning s c .say) ws (shifting (s .line) c .next) s legal
 
   pub alike : (cs : List C) (s : Rings) → below ws (s .places) ≡ true → map asLines (run turning s cs) ≡ run shifting (s .line) cs
   unfolding run

@@ -1,7 +1,7 @@
 -- A state tells its places and its store.
 -- Assumes nothing.
 use Prim.Native.Nat.{ℕ}
-use mathlib.Core.Path.{_≡_, refl, sym, ap, _∙_}
+use mathlib.Core.Path.{_≡_, refl, sym, ap, ap₂, _∙_}
 use mathlib.Core.Bool.{true}
 use mathlib.Core.List.{List}
 use native.Mathlib.Omega.{arith}
@@ -11,8 +11,8 @@ use Rattle.rings.specs.Rings.{waits, below, unrolledAll}
 use Rattle.rings.specs.Rings.Back.{store-one}
 use Rattle.rings.specs.Rings.Fresh.{at-rest, fresh-below}
 use Rattle.circ.specs.Rows.{beforeC2, between, afterC1, readerBeforeC1, readerBetween, readerAfterC2}
-use Rattle.circ.specs.Chains.{freshWriter}
-use Rattle.circ.specs.Marked.{freshReader}
+use Rattle.circ.specs.Chains.{writerHolds, freshWriter}
+use Rattle.circ.specs.Marked.{readerHolds, freshReader}
 use Rattle.circ.specs.Rings.{Rings, ringsAt, writerWaits, writerRings, freshWriterRings, readerWaits, markedWaits, shared, readerRings, freshReaderRings}
 
 known : (ds ps qs : List ℕ) (spread : List ℕ → List ℕ) (s t : List ℕ) → total ds ≡ length s → total ds ≡ length t
@@ -28,6 +28,11 @@ writer-total : total writerWaits ≡ 1552
 unfolding writerWaits beforeC2 between afterC1 total
 writer-total = refl
 
+-- so many bytes wait
+pub writer-holds : writerHolds ≡ 1552
+unfolding beforeC2 between afterC1 total
+writer-holds = refl
+
 writer-many : length (waits writerWaits) ≡ 55
 unfolding writerWaits beforeC2 between afterC1 waits
 writer-many = refl
@@ -38,17 +43,22 @@ writer-known ps qs s t h k e = known writerWaits ps qs (λ u. u) s t (writer-tot
 -- the rings of `new()`
 pub writer-rest : (ps s : List ℕ) → ps ≡ zeros 55 → s ≡ freshWriter → writerRings ps s ≡ freshWriterRings
 writer-rest ps s p e =
-    rw (p, e)
-    (ap (λ (l : List ℕ). ringsAt (zeros 55) l) (ap (λ (n : ℕ). unrolledAll writerWaits (zeros n) freshWriter) (sym writer-many) ∙ at-rest writerWaits freshWriter))
+    ap₂ writerRings (p ∙ ap (λ (n : ℕ). zeros n) (sym writer-many)) e
+    ∙ ap (ringsAt (zeros (length (waits writerWaits)))) (at-rest writerWaits freshWriter)
 
 pub writer-legal : below (waits writerWaits) (freshWriterRings .places) ≡ true
-writer-legal = ap (λ (n : ℕ). below (waits writerWaits) (zeros n)) (sym writer-many) ∙ fresh-below writerWaits
+writer-legal = fresh-below writerWaits
 
 -- ---- the reader
 
 reader-total : total markedWaits ≡ 3082
 unfolding markedWaits readerBeforeC1 readerBetween readerAfterC2 total
 reader-total = refl
+
+-- so many bytes and marks wait
+pub reader-holds : readerHolds ≡ 3082
+unfolding readerBeforeC1 readerBetween readerAfterC2 total
+reader-holds = refl
 
 reader-many : length (waits readerWaits) ≡ 56
 unfolding readerWaits readerBeforeC1 readerBetween readerAfterC2 waits
@@ -61,15 +71,15 @@ marked-many = refl
 pub reader-known : (ps qs s t : List ℕ) → length s ≡ 3082 → length t ≡ 3082 → readerRings ps s ≡ readerRings qs t → (ps ≡ qs) × (s ≡ t)
 reader-known ps qs s t h k e = known markedWaits ps qs shared s t (reader-total ∙ sym h) (reader-total ∙ sym k) e
 
-shared-rest : shared (zeros 56) ≡ zeros 99
-unfolding shared
+shared-rest : shared (zeros (length (waits readerWaits))) ≡ zeros 99
+unfolding shared readerWaits readerBeforeC1 readerBetween readerAfterC2 waits
 shared-rest = refl
 
 pub reader-rest : (ps s : List ℕ) → ps ≡ zeros 56 → s ≡ freshReader → readerRings ps s ≡ freshReaderRings
 reader-rest ps s p e =
-    rw (p, e)
-    (ap (λ (l : List ℕ). ringsAt (zeros 56) l)
-    (ap (λ (t : List ℕ). unrolledAll markedWaits t freshReader) (shared-rest ∙ ap (λ (n : ℕ). zeros n) (sym marked-many)) ∙ at-rest markedWaits freshReader))
+    ap₂ readerRings (p ∙ ap (λ (n : ℕ). zeros n) (sym reader-many)) e
+    ∙ ap (ringsAt (zeros (length (waits readerWaits))))
+    (ap (λ (t : List ℕ). unrolledAll markedWaits t freshReader) (shared-rest ∙ ap (λ (n : ℕ). zeros n) (sym marked-many)) ∙ at-rest markedWaits freshReader)
 
 pub reader-legal : below (waits readerWaits) (freshReaderRings .places) ≡ true
-reader-legal = ap (λ (n : ℕ). below (waits readerWaits) (zeros n)) (sym reader-many) ∙ fresh-below readerWaits
+reader-legal = fresh-below readerWaits

@@ -16,7 +16,7 @@ use Rattle.circ.specs.Rings.{readerWaits, markedWaits, shared}
 
 -- three parts of places, shared
 shared-joined : (a b c : List ℕ) → length a ≡ 16 → length b ≡ 27 → shared (a ++ (b ++ c)) ≡ twice a ++ (twice b ++ c)
-unfolding shared
+unfolding shared waits readerBeforeC1 readerBetween
 shared-joined a b c h k =
     let e : drop 16 (a ++ (b ++ c)) ≡ b ++ c = drop-at a (b ++ c) 16 h in
     ap₂ (λ (t u : List ℕ). twice t ++ (twice (take 27 u) ++ drop 43 (a ++ (b ++ c)))) (take-at a (b ++ c) 16 h) e
@@ -69,7 +69,7 @@ module _ (ps : List ℕ) (many : length ps ≡ 56) (legal : below (waits readerW
   -- ---- the places of the marks too, now and a step later
 
   pub shared-is : shared ps ≡ twice p₁ ++ (twice p₂ ++ p₃)
-  unfolding shared p₁ p₂ p₃
+  unfolding shared waits readerBeforeC1 readerBetween p₁ p₂ p₃
   shared-is = refl
 
   q₁ : List ℕ

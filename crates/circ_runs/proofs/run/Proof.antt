@@ -3,7 +3,7 @@
 use borrow.Author.Needs.{needs}
 use Prim.Native.Nat.{_-_}
 use lib.ListN.{length}
-use mathlib.Core.Path.{refl, ap₂}
+use mathlib.Core.Path.{ap₂}
 use Rattle.circ.specs.Rings.{Rings, writerRings, freshWriterRings, readerRings, freshReaderRings}
 use Rattle.circ.specs.Rings.Known.{writer-rest, reader-rest}
 use Rattle.circ_runs.specs.Inner.Coding.{coding, oneOf}
@@ -19,10 +19,19 @@ Inv-loop reads frames steps₀ out₀ write-store₀ write-places₀ read-store�
 abbrev μ-loop : tie.MeasureT-loop
 μ-loop reads frames steps₀ out₀ write-store₀ write-places₀ read-store₀ read-places₀ k₀ from₀ to₀ steps out write-store write-places read-store read-places k from to = length steps - k
 
+new-requires : tie.Need-new-requires Inv-loop μ-loop
+new-requires c κs = search needs
+
+new-requires-2 : tie.Need-new-requires-2 Inv-loop μ-loop
+new-requires-2 c κs = search needs
+
 loop-holds : tie.Need-loop-holds Inv-loop μ-loop
 loop-holds c =
-    let reads = c .before .before .before .args .reads in
-    running-none (coding reads) _ _ _ _ _ (ap₂ (λ (r w : Rings). oneOf reads r w) (reader-rest _ _ refl refl) (writer-rest _ _ refl refl))
+    let reader = c .before .before .new2 .ensures in
+    let made = c .before .before .before .before .before in
+    let writer = made .new .ensures in
+    let reads = made .before .before .before .before .args .reads in
+    running-none (coding reads) _ _ _ _ _ (ap₂ (λ (r w : Rings). oneOf reads r w) (reader-rest _ _ (reader .1) (reader .0)) (writer-rest _ _ (writer .1) (writer .0)))
 
 sub-loop : tie.Need-sub-loop Inv-loop μ-loop
 sub-loop c = search needs
@@ -87,7 +96,7 @@ loop-again c =
     let to-end = done .before .before .before .before .before .before .before in
     let from-end = to-end .before .before in
     let turn = from-end .before .before .before in
-    running-more (coding (turn .before .before .before .before .args .reads)) (turn .loop .inv) (from-end .end-of .result) (to-end .end-of2 .result) _ _ _
+    running-more (coding (turn .before .before .before .before .before .before .before .before .before .before .args .reads)) (turn .loop .inv) (from-end .end-of .result) (to-end .end-of2 .result) _ _ _
     (from-end .before .before .loop-test .taken) (from-end .end-of .ensures) (to-end .end-of2 .ensures) (of-reader (writerRings (turn .loop .write-places) (turn .loop .write-store)) (done .before .before .before .if1 .taken) (done .read-frame .ensures)) (search needs)
 
 loop-less-2 : tie.Need-loop-less-2 Inv-loop μ-loop
@@ -99,7 +108,7 @@ loop-again-2 c =
     let to-end = done .before .before .before .before .before .before .before in
     let from-end = to-end .before .before in
     let turn = from-end .before .before .before in
-    running-more (coding (turn .before .before .before .before .args .reads)) (turn .loop .inv) (from-end .end-of .result) (to-end .end-of2 .result) _ _ _
+    running-more (coding (turn .before .before .before .before .before .before .before .before .before .before .args .reads)) (turn .loop .inv) (from-end .end-of .result) (to-end .end-of2 .result) _ _ _
     (from-end .before .before .loop-test .taken) (from-end .end-of .ensures) (to-end .end-of2 .ensures) (of-writer (readerRings (turn .loop .read-places) (turn .loop .read-store)) (done .before .before .before .if1 .left) (done .write-frame .ensures)) (search needs)
 
 same-length : tie.Need-same-length Inv-loop μ-loop
@@ -109,7 +118,7 @@ same-length-2 : tie.Need-same-length-2 Inv-loop μ-loop
 same-length-2 c = search needs
 
 returns : tie.Need-returns Inv-loop μ-loop
-returns c = running-all (coding (c .before .before .before .before .before .args .reads)) (c .before .loop .inv) (c .loop-test .left)
+returns c = running-all (coding (c .before .before .before .before .before .before .before .before .before .before .before .args .reads)) (c .before .loop .inv) (c .loop-test .left)
 
 pub run-spec : {M : Type 1} → statement M
 run-spec =
@@ -117,6 +126,8 @@ run-spec =
     (tie.spec
     Inv-loop
     μ-loop
+    new-requires
+    new-requires-2
     loop-holds
     sub-loop
     slice-read-end-of

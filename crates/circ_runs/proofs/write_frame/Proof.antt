@@ -9,8 +9,8 @@ use Rattle.circ_runs.proofs.write_frame.Tie as tie
 write-in-place-requires : tie.Need-write-in-place-requires
 write-in-place-requires c κs = search needs
 
-written-requires : tie.Need-written-requires
-written-requires c κs = search needs
+number-requires : tie.Need-number-requires
+number-requires c κs = search needs
 
 put-requires : tie.Need-put-requires
 put-requires c κs = search needs
@@ -27,9 +27,9 @@ returns c =
     let put = c .before .before in
     let told = put .before .before in
     let stepped = told .before .before .before in
-    leaves-all writingInPlace _ _ _ _ _ _ _ _ (stepped .write-in-place .ensures) (put .put .ensures) (told .written .ensures) (no-value (stepped .write-in-place .result))
+    leaves-all writingInPlace _ _ _ _ _ _ _ _ (stepped .write-in-place .ensures) (put .put .ensures) (told .number .ensures) (no-value (stepped .write-in-place .result))
 
 pub write-frame-spec : {M : Type 1} → statement M
 write-frame-spec =
     tie.close
-    (tie.spec write-in-place-requires written-requires put-requires same-length same-length-2 returns)
+    (tie.spec write-in-place-requires number-requires put-requires same-length same-length-2 returns)

@@ -17,21 +17,21 @@ use Rattle.erasures.specs.Agreeing.Exact.{agreeing-sound, agreeing-never}
 use Rattle.lines.specs.Stream.{back}
 use Rattle.circ.specs.Marks.{Marks}
 use Rattle.circ.specs.Marks.Either.{either-marks}
-use Rattle.circ.specs.Codes.{corrected, lost, doubted}
+use Rattle.circ.specs.Codes.{corrected, wordMark, doubted}
 use Rattle.circ.specs.Codes.Corrected.{judged}
 use Rattle.circ.specs.Codes.Treated.{positive, treats-unmarked, treats-agreeing, treats-none, treats-too-many}
 use Rattle.circ.specs.Marked.{wordMetC2, marksMetC2}
 use Rattle.circ_streams.specs.Inner.MarkedStreams.{length-word-c2, bytes-word-c2}
 use Rattle.circ_streams.specs.Inner.MarkedRows.{doubt-marked}
 use Rattle.circ_streams.specs.Streams.{F2Frames, MarksOf, doubtAt}
-use Rattle.circ_streams.specs.Doubt.{NoneFound, none-near, none-agrees, too-many, Lost, Doubted}
+use Rattle.circ_streams.specs.Doubt.{NoneFound, none-near, none-agrees, too-many, InDoubt, Doubted}
 
 -- the mark of a word with marks
 module _ (m w : List ℕ) (bytes : Bytes w) (short : length w ≤ 255) where
   unmarked : weight m ≡ 0 → Marks (doubted 4 m w) (NoneFound m w)
   unmarked z = by (judged w bytes short)
     where
-      is : doubted 4 m w ≡ lost w
+      is : doubted 4 m w ≡ wordMark w
       is = treats-unmarked 4 m w z .marks
 
       not : Near 4 w (corrected w) → NoneFound m w → ⊥
@@ -39,7 +39,7 @@ module _ (m w : List ℕ) (bytes : Bytes w) (short : length w ≤ 255) where
       not c (none-agrees h l n) = omega arith
       not c (too-many h) = omega arith
 
-      by : ((lost w ≡ 1) × ((c : List ℕ) → Near 4 w c → ⊥)) ⊎ ((lost w ≡ 0) × Near 4 w (corrected w)) → Marks (doubted 4 m w) (NoneFound m w)
+      by : ((wordMark w ≡ 1) × ((c : List ℕ) → Near 4 w c → ⊥)) ⊎ ((wordMark w ≡ 0) × Near 4 w (corrected w)) → Marks (doubted 4 m w) (NoneFound m w)
       by (inl (e, n)) = inl (is ∙ e, none-near z n)
       by (inr (e, c)) = inr (is ∙ e, not c)
 
@@ -66,21 +66,21 @@ module _ (m w : List ℕ) (bytes : Bytes w) (short : length w ≤ 255) where
       go (no n) (inr l) = some-marked (positive m n) l
 
 module _ (g k : ℕ → List ℕ) (frames : F2Frames g) (marks : MarksOf k) where
-  marked : (n : ℕ) → Marks (doubted 4 (marksMetC2 g k n) (wordMetC2 g k n)) (Lost g k n)
+  marked : (n : ℕ) → Marks (doubted 4 (marksMetC2 g k n) (wordMetC2 g k n)) (InDoubt g k n)
   marked n =
       doubted-marks (marksMetC2 g k n) (wordMetC2 g k n) (bytes-word-c2 g k (frames .long) marks (frames .bytes) n)
       (omega (arith, length-word-c2 g k (frames .long) marks n))
 
-  -- two steps before; before the start no word is lost
-  earlier : (n : ℕ) → Marks (back 0 (λ m. doubted 4 (marksMetC2 g k m) (wordMetC2 g k m)) 2 n) ((2 ≤ n) × Lost g k (n - 2))
+  -- two steps before; before the start no word is in doubt
+  earlier : (n : ℕ) → Marks (back 0 (λ m. doubted 4 (marksMetC2 g k m) (wordMetC2 g k m)) 2 n) ((2 ≤ n) × InDoubt g k (n - 2))
   unfolding back
   earlier zero = inr (refl, λ h. omega (arith, h .0))
   earlier (suc zero) = inr (refl, λ h. omega (arith, h .0))
   earlier (suc (suc m)) =
-      subst (λ (j : ℕ). Marks (doubted 4 (marksMetC2 g k m) (wordMetC2 g k m)) ((2 ≤ suc (suc m)) × Lost g k j)) (omega arith) (by (marked m))
+      subst (λ (j : ℕ). Marks (doubted 4 (marksMetC2 g k m) (wordMetC2 g k m)) ((2 ≤ suc (suc m)) × InDoubt g k j)) (omega arith) (by (marked m))
     where
-      by : Marks (doubted 4 (marksMetC2 g k m) (wordMetC2 g k m)) (Lost g k m)
-          → Marks (doubted 4 (marksMetC2 g k m) (wordMetC2 g k m)) ((2 ≤ suc (suc m)) × Lost g k m)
+      by : Marks (doubted 4 (marksMetC2 g k m) (wordMetC2 g k m)) (InDoubt g k m)
+          → Marks (doubted 4 (marksMetC2 g k m) (wordMetC2 g k m)) ((2 ≤ suc (suc m)) × InDoubt g k m)
       by (inl (e, h)) = inl (e, (omega arith, h))
       by (inr (e, h)) = inr (e, λ j. h (j .1))
 

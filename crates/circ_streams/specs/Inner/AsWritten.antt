@@ -16,7 +16,7 @@ use Rattle.lines.specs.Stream.Late.{back-agree}
 use Rattle.lines.specs.Stream.Rows.{row-waits, out-same}
 use Rattle.circ.specs.Rows.{readerBeforeC1, readerBetween, readerAfterC2, mask, inverted}
 use Rattle.circ.specs.Chains.{throughC1, throughC2, readerRows, readerAt, metC1, metC2}
-use Rattle.circ.specs.Codes.{qOf, pOf, corrected, lost, doubted}
+use Rattle.circ.specs.Codes.{qOf, pOf, corrected, wordMark, doubted}
 use Rattle.circ.specs.Codes.Corrected.{length-corrected}
 use Rattle.circ.specs.Codes.Treated.{Treats, treats-right, sure-or-right}
 use Rattle.circ.specs.Marks.{lostBy, lostMarks}
@@ -57,7 +57,7 @@ module _ (f : ℕ → List ℕ) (frames : F1Frames f) where
   length-C2 : (n : ℕ) → length (C2 n) ≡ 28
   length-C2 n = length-U₂ circ-coding circ-correcting f (frames .long) (frames .bytes) W right n
 
-  handed : (n : ℕ) → throughC2 corrected lost (C2 n) ≡ C2 n ++ (0 ∷ 0 ∷ [])
+  handed : (n : ℕ) → throughC2 corrected wordMark (C2 n) ≡ C2 n ++ (0 ∷ 0 ∷ [])
   handed n = is-V₂ circ-coding circ-correcting f (frames .long) (frames .bytes) W right n
 
   -- ---- frames that agree with it
@@ -130,9 +130,9 @@ module _ (f : ℕ → List ℕ) (frames : F1Frames f) where
       right-c2 n = treats-right 4 (marksMetC2 g k n) (wordMetC2 g k n) (omega arith) (omega (arith, length-word-c2 g k long marks n)) (C2 n) (agrees-c2 n) (few n)
 
       pub rows-as-written : (n : ℕ)
-          → markedRows (markedAt g k n) (g n ++ k n) ≡ readerRows corrected corrected lost (readerAt corrected corrected lost (λ m. f2At f m) n) (f2At f n)
+          → markedRows (markedAt g k n) (g n ++ k n) ≡ readerRows corrected corrected wordMark (readerAt corrected corrected wordMark (λ m. f2At f m) n) (f2At f n)
       rows-as-written n =
           rows-marked g k long marks n
-          ∙ out-same readerAfterC2 (λ m. rowsC2 (marksMetC2 g k m) (wordMetC2 g k m)) (λ m. throughC2 corrected lost (C2 m)) n
+          ∙ out-same readerAfterC2 (λ m. rowsC2 (marksMetC2 g k m) (wordMetC2 g k m)) (λ m. throughC2 corrected wordMark (C2 m)) n
           (λ m. ap₂ (λ (w : List ℕ) (b : ℕ). w ++ (b ∷ b ∷ [])) (right-c2 m .hands-on) (right-c2 m .marks) ∙ sym (handed m))
-          ∙ sym (rows-read corrected corrected lost W n)
+          ∙ sym (rows-read corrected corrected wordMark W n)

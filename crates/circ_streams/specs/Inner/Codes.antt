@@ -8,8 +8,8 @@ use Rattle.codeword.specs.Code.{Codeword}
 use Rattle.codeword.specs.Nearest.Finds.{nearest-code}
 use Rattle.codeword.specs.Code.Distance.{sum-zeros}
 use Rattle.circ_streams.specs.Inner.Coding.{Coding, Correcting}
-use Rattle.erasures.specs.Agreeing.{handedOn}
-use Rattle.circ.specs.Codes.{qOf, pOf, markOf, corrected, lost}
+use Rattle.codeword.specs.Nearest.{foundOr}
+use Rattle.circ.specs.Codes.{qOf, pOf, markOf, corrected, wordMark}
 use Rattle.circ.specs.Codes.Parities.{four-bytes, bytes-parity, q-parity, p-parity}
 
 -- the Q and P bytes make codewords
@@ -26,12 +26,12 @@ circ-coding =
     }
 
 -- the code keeps codewords, and does not mark them
-pub circ-correcting : Correcting (Codeword 4) corrected corrected lost
-unfolding corrected lost
+pub circ-correcting : Correcting (Codeword 4) corrected corrected wordMark
+unfolding corrected wordMark
 circ-correcting =
     record {
       zeros = λ n j h. sum-zeros j n;
-      keeps₁ = λ w e h c. ap (handedOn w) (nearest-code 4 w (omega arith) c);
-      keeps₂ = λ w e h c. ap (handedOn w) (nearest-code 4 w (omega arith) c);
+      keeps₁ = λ w e h c. ap (foundOr w) (nearest-code 4 w (omega arith) c);
+      keeps₂ = λ w e h c. ap (foundOr w) (nearest-code 4 w (omega arith) c);
       sure = λ w e h c. ap markOf (nearest-code 4 w (omega arith) c);
     }

@@ -1,19 +1,18 @@
--- The reader with marks over time, from fresh, for any frames and marks: of which C2 word each F1 byte comes, and whose doubts make the doubt mark.
+-- The reader with marks over time, from fresh, for any frames and marks: whose doubts make the doubt mark.
 -- Assumes nothing.
 use mathlib.Core.Path.{_≡_, sym, ap, ap₂, _∙_}
 use mathlib.Core.List.{List, [], _∷_, _++_}
-use Prim.Native.Nat.{ℕ, _+_, _≤_, _<_}
+use Prim.Native.Nat.{ℕ, _+_, _≤_}
 use native.Mathlib.Omega.{arith}
-use lib.ListN.{length, getD, length-append, List·getD-append}
+use lib.ListN.{length, getD, length-append}
 use lib.Seq.{getD-append-add}
 use Rattle.lines.specs.Stream.{back}
 use Rattle.lines.specs.Stream.Late.{back-same}
 use Rattle.lines.specs.Stream.Rows.{row-waits}
-use Rattle.circ.specs.Rows.{either, doubt, rowsOfBytes, readerAfterC2}
+use Rattle.circ.specs.Rows.{either, doubt, readerAfterC2}
 use Rattle.circ.specs.Codes.{treated, doubted}
 use Rattle.circ.specs.Codes.Treated.{length-treated}
-use Rattle.circ.specs.Marked.{rowsC2, wordMetC2, marksMetC2, markedAt, markedRows, markedOut, markedDoubt}
-use Rattle.circ_streams.specs.Inner.Tables.{carries-low, byte-carried, collected-at}
+use Rattle.circ.specs.Marked.{rowsC2, wordMetC2, marksMetC2, markedAt, markedRows, markedDoubt}
 use Rattle.circ_streams.specs.Inner.MarkedStreams.{length-word-c2, rows-marked}
 
 module _ (g k : ℕ → List ℕ) (long : (n : ℕ) → length (g n) ≡ 32) (marks : (n : ℕ) → length (k n) ≡ 32) where
@@ -36,22 +35,11 @@ module _ (g k : ℕ → List ℕ) (long : (n : ℕ) → length (g n) ≡ 32) (ma
   row-read : (r n : ℕ) → getD (markedRows (markedAt g k n) (g n ++ k n)) r 0 ≡ back 0 (λ m. getD (handed m) r 0) (getD readerAfterC2 r 0) n
   row-read r n = ap (λ (t : List ℕ). getD t r 0) (rows-marked g k long marks n) ∙ row-waits readerAfterC2 handed r n wide
 
-  -- F1 byte b: rows 0 to 11 are of the C2 word of this step, rows 16 to 27 of the one two steps before
-  pub byte-marked : (b n : ℕ) → b < 24
-      → getD (markedOut (markedAt g k n) (g n ++ k n)) b 0
-      ≡ back 0 (λ m. getD (treated 4 (marksMetC2 g k m) (wordMetC2 g k m)) (getD rowsOfBytes b 0) 0) (getD readerAfterC2 (getD rowsOfBytes b 0) 0) n
-  byte-marked b n h =
-      let r = getD rowsOfBytes b 0 in
-      collected-at (markedRows (markedAt g k n) (g n ++ k n)) b h
-      ∙ row-read r n
-      ∙ back-same 0 (λ m. getD (handed m) r 0) (λ m. getD (fixed m) r 0) (getD readerAfterC2 r 0) n
-      (λ m. List·getD-append (fixed m) (mark m ∷ mark m ∷ []) 0 r (omega (arith, length-fixed m, carries-low r (byte-carried b h))))
-
   row-mark : (i m : ℕ) → getD (handed m) (28 + i) 0 ≡ getD (mark m ∷ mark m ∷ []) i 0
   row-mark i m =
       ap (λ (j : ℕ). getD (handed m) (j + i) 0) (sym (length-fixed m)) ∙ getD-append-add (fixed m) (mark m ∷ mark m ∷ []) i 0
 
-  -- the doubt mark is that of either of these two C2 words
+  -- the doubt mark is that of either of two C2 words: of this step, and of the one two steps before
   pub doubt-marked : (n : ℕ)
       → markedDoubt (markedAt g k n) (g n ++ k n)
       ≡ either (doubted 4 (marksMetC2 g k n) (wordMetC2 g k n)) (back 0 (λ m. doubted 4 (marksMetC2 g k m) (wordMetC2 g k m)) 2 n)

@@ -11,12 +11,10 @@ use Rattle.outcome.specs.Bytes.Kept.{bytes-take}
 use Rattle.lines.specs.Stream.{outAt}
 use Rattle.lines.specs.Stream.Rows.{out-same, length-out, bytes-out}
 use Rattle.lines.specs.Stream.Beside.{beside}
-use Rattle.lines.specs.Chain.{chained}
-use Rattle.lines.specs.Chain.Streams.{chain-law}
+use Rattle.lines.specs.Chain.Streams.{chained, chain-law}
 use Rattle.circ.specs.Rows.{readerBeforeC1, readerBetween, readerAfterC2, inverted}
 use Rattle.circ.specs.Chains.{metC1}
 use Rattle.circ.specs.Marks.{lostMarks}
-use Rattle.circ.specs.Marks.Lost.{length-lost}
 use Rattle.circ.specs.Codes.{treated, doubted}
 use Rattle.circ.specs.Codes.Treated.{length-treated, bytes-treated}
 use Rattle.circ.specs.Marked.{bytesC1, marksC1, rowsC2, twice, entering, passC1, passC2, markedRows, markedAt, marksMetC1, wordMetC2, marksMetC2}
@@ -25,10 +23,6 @@ use Rattle.circ_streams.specs.Inner.ReaderRows.{length-met-c1, bytes-met
 
 module _ (g k : ℕ → List ℕ) (long : (n : ℕ) → length (g n) ≡ 32) (marks : (n : ℕ) → length (k n) ≡ 32) where
   -- ---- lengths and bytes
-
-  pub length-marks-c1 : (n : ℕ) → length (marksMetC1 k n) ≡ 32
-  unfolding marksMetC1
-  length-marks-c1 n = length-out readerBeforeC1 (λ m. lostMarks (k m)) n ∙ length-lost (k n) ∙ marks n
 
   pub length-bytes-on : (n : ℕ) → length (bytesC1 (marksMetC1 k n) (metC1 g n)) ≡ 28
   length-bytes-on n =
@@ -40,10 +34,6 @@ module _ (g k : ℕ → List ℕ) (long : (n : ℕ) → length (g n) ≡ 32) (ma
   pub length-word-c2 : (n : ℕ) → length (wordMetC2 g k n) ≡ 28
   unfolding wordMetC2
   length-word-c2 n = length-out readerBetween (λ m. bytesC1 (marksMetC1 k m) (metC1 g m)) n ∙ length-bytes-on n
-
-  pub length-marks-c2 : (n : ℕ) → length (marksMetC2 g k n) ≡ 28
-  unfolding marksMetC2
-  length-marks-c2 n = length-out readerBetween (λ m. marksC1 (marksMetC1 k m) (metC1 g m)) n ∙ length-marks-on n
 
   pub bytes-word-c2 : ((m : ℕ) → Bytes (g m)) → (n : ℕ) → Bytes (wordMetC2 g k n)
   unfolding wordMetC2 readerBetween

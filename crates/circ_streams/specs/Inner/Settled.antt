@@ -16,7 +16,7 @@ use Rattle.lines.specs.Delay.{total, zeros}
 use Rattle.lines.specs.Chain.Zeros.{chain-zeros, chain-stays}
 use Rattle.circ.specs.Rows.{placed, collected, doubt, beforeC2, between, afterC1, readerBeforeC1, readerBetween, readerAfterC2, mask, inverted}
 use Rattle.circ.specs.Chains.{withQ, withP, writerOut, writerNext, freshWriter}
-use Rattle.circ.specs.Codes.{qOf, pOf, markOf, lost}
+use Rattle.circ.specs.Codes.{qOf, pOf, markOf, wordMark}
 use Rattle.circ.specs.Codes.Treated.{treats-unmarked}
 use Rattle.circ.specs.Marks.{lostBy, lostMarks}
 use Rattle.circ.specs.Marked.{twice, entering, passC1, passC2, markedRows, markedOut, markedDoubt, markedNext, freshReader}
@@ -63,9 +63,9 @@ writer-zeros =
 
 -- ---- the reader
 
-lost-zeros : (n : ℕ) → n ≤ 255 → lost (zeros n) ≡ 0
-unfolding lost
-lost-zeros n h = ap markOf (nearest-code 4 (zeros n) (omega (arith, length-replicate {A = ℕ} n 0)) (λ j l. sum-zeros j n))
+mark-zeros : (n : ℕ) → n ≤ 255 → wordMark (zeros n) ≡ 0
+unfolding wordMark
+mark-zeros n h = ap markOf (nearest-code 4 (zeros n) (omega (arith, length-replicate {A = ℕ} n 0)) (λ j l. sum-zeros j n))
 
 -- nothing is marked
 zeros-unmarked : (n : ℕ) → weight (zeros n) ≡ 0
@@ -77,7 +77,7 @@ c1-zeros =
     let t = treats-unmarked 2 (zeros 32) (zeros 32) (zeros-unmarked 32) in
     ap₂ (λ (w : List ℕ) (b : ℕ). take 28 w ++ replicate 28 b)
     (t .hands-on ∙ circ-correcting .keeps₁ (zeros 32) refl (bytes-replicate 32 0 (omega arith)) (circ-correcting .zeros 32))
-    (t .marks ∙ lost-zeros 32 (omega arith))
+    (t .marks ∙ mark-zeros 32 (omega arith))
 
 c2-zeros : passC2 (zeros 56) ≡ zeros 30
 unfolding passC2
@@ -85,7 +85,7 @@ c2-zeros =
     let t = treats-unmarked 4 (zeros 28) (zeros 28) (zeros-unmarked 28) in
     ap₂ (λ (w : List ℕ) (b : ℕ). w ++ (b ∷ b ∷ []))
     (t .hands-on ∙ circ-correcting .keeps₂ (zeros 28) refl (bytes-replicate 28 0 (omega arith)) (circ-correcting .zeros 28))
-    (t .marks ∙ lost-zeros 28 (omega arith))
+    (t .marks ∙ mark-zeros 28 (omega arith))
 
 -- such a frame, unmarked
 abbrev pub quiet : List ℕ

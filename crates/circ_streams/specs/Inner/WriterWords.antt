@@ -8,8 +8,7 @@ use lib.ListN.{length, getD}
 use Rattle.outcome.specs.Bytes.{Bytes}
 use Rattle.lines.specs.Stream.{back, outAt}
 use Rattle.lines.specs.Stream.Rows.{row-waits, length-out, bytes-out}
-use Rattle.lines.specs.Chain.{chained}
-use Rattle.lines.specs.Chain.Streams.{chain-law}
+use Rattle.lines.specs.Chain.Streams.{chained, chain-law}
 use Rattle.circ.specs.Rows.{placed, beforeC2, between, afterC1, inverted}
 use Rattle.circ.specs.Chains.{withQ, withP, writerOut, writerAt, written, c2Word, c1Word}
 use Rattle.circ_streams.specs.Inner.Coding.{Coding}

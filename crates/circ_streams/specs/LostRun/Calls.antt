@@ -1,5 +1,5 @@
--- Public calls from `new()` with one run of lost frames, refused calls among them. Up to 15: the reader's call 111 + n that is done gives the frame of the
--- writer's call n, without doubt, and the first 111 give zeros. 16 or more: the reader says that it is in doubt.
+-- Calls from `new()` with one run of lost frames, refused calls among them. Up to 15: the reader's call 111 + n that is done gives the frame of the
+-- writer's call n, without doubt, and the first 111 give zeros. 16 or more: the reader says that it is in doubt. `Public` has this of the public steps.
 -- Assumes nothing.
 use mathlib.Core.Path.{_≡_, ap, _∙_}
 use mathlib.Core.List.{List, [], _∷_}

@@ -10,7 +10,7 @@ use Rattle.codeword.specs.Code.{weight, Near}
 use Rattle.lines.specs.Stream.Rows.{out-same}
 use Rattle.circ.specs.Rows.{collected, doubt, readerBetween, readerAfterC2}
 use Rattle.circ.specs.Chains.{throughC1, throughC2, readerRows, readerAt, metC1, metC2}
-use Rattle.circ.specs.Codes.{corrected, lost}
+use Rattle.circ.specs.Codes.{corrected, wordMark}
 use Rattle.circ.specs.Codes.Corrected.{judged}
 use Rattle.circ.specs.Codes.Treated.{treats-unmarked}
 use Rattle.circ.specs.Marked.{bytesC1, rowsC2, markedRows, markedAt, marksMetC1, wordMetC2, marksMetC2}
@@ -21,11 +21,11 @@ use Rattle.circ_streams.specs.Inner.MarkRows.{marks-c1-none, marks-c2-no
 
 module _ (g k : ℕ → List ℕ) (frames : F2Frames g) (marks : MarksOf k) (none : NoneLost k) (near : (n : ℕ) → (c : List ℕ) × Near 4 (metC1 g n) c) where
   -- C1 loses no word
-  found : (n : ℕ) → lost (metC1 g n) ≡ 0
+  found : (n : ℕ) → wordMark (metC1 g n) ≡ 0
   found n = by (judged (metC1 g n) (bytes-met-c1 g (frames .long) (frames .bytes) n) (omega (arith, length-met-c1 g (frames .long) n)))
     where
-      by : ((lost (metC1 g n) ≡ 1) × ((c : List ℕ) → Near 4 (metC1 g n) c → ⊥)) ⊎ ((lost (metC1 g n) ≡ 0) × Near 4 (metC1 g n) (corrected (metC1 g n)))
-          → lost (metC1 g n) ≡ 0
+      by : ((wordMark (metC1 g n) ≡ 1) × ((c : List ℕ) → Near 4 (metC1 g n) c → ⊥)) ⊎ ((wordMark (metC1 g n) ≡ 0) × Near 4 (metC1 g n) (corrected (metC1 g n)))
+          → wordMark (metC1 g n) ≡ 0
       by (inl (e, n')) = absurd (n' (near n .0) (near n .1))
       by (inr (e, c)) = e
 
@@ -41,17 +41,17 @@ module _ (g k : ℕ → List ℕ) (frames : F2Frames g) (marks : MarksOf k) (non
       out-same readerBetween (λ m. bytesC1 (marksMetC1 k m) (metC1 g m)) (λ m. throughC1 corrected (metC1 g m)) n
       (λ m. ap (take 28) (treats-unmarked 2 (marksMetC1 k m) (metC1 g m) (unmarked-c1 m) .hands-on))
 
-  handed : (n : ℕ) → rowsC2 (marksMetC2 g k n) (wordMetC2 g k n) ≡ throughC2 corrected lost (metC2 corrected g n)
+  handed : (n : ℕ) → rowsC2 (marksMetC2 g k n) (wordMetC2 g k n) ≡ throughC2 corrected wordMark (metC2 corrected g n)
   unfolding throughC2
   handed n =
       let t = treats-unmarked 4 (marksMetC2 g k n) (wordMetC2 g k n) (unmarked-c2 n) in
-      ap₂ (λ (w : List ℕ) (b : ℕ). w ++ (b ∷ b ∷ [])) (t .hands-on) (t .marks) ∙ ap (throughC2 corrected lost) (same-c2 n)
+      ap₂ (λ (w : List ℕ) (b : ℕ). w ++ (b ∷ b ∷ [])) (t .hands-on) (t .marks) ∙ ap (throughC2 corrected wordMark) (same-c2 n)
 
-  rows-before : (n : ℕ) → markedRows (markedAt g k n) (g n ++ k n) ≡ readerRows corrected corrected lost (readerAt corrected corrected lost g n) (g n)
+  rows-before : (n : ℕ) → markedRows (markedAt g k n) (g n ++ k n) ≡ readerRows corrected corrected wordMark (readerAt corrected corrected wordMark g n) (g n)
   rows-before n =
       rows-marked g k (frames .long) marks n
-      ∙ out-same readerAfterC2 (λ m. rowsC2 (marksMetC2 g k m) (wordMetC2 g k m)) (λ m. throughC2 corrected lost (metC2 corrected g m)) n handed
-      ∙ sym (rows-read corrected corrected lost g n)
+      ∙ out-same readerAfterC2 (λ m. rowsC2 (marksMetC2 g k m) (wordMetC2 g k m)) (λ m. throughC2 corrected wordMark (metC2 corrected g m)) n handed
+      ∙ sym (rows-read corrected corrected wordMark g n)
 
   -- the same frames, and the same doubt marks
   pub reads-as-before : (n : ℕ) → (f1At g k n ≡ f1Before g n) × (doubtAt g k n ≡ doubtBefore g n)

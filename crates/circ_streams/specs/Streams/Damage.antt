@@ -10,7 +10,7 @@ use Rattle.codeword.specs.Code.{changes, Near}
 use Rattle.codeword.specs.Nearest.Finds.{nearest-complete}
 use Rattle.lines.specs.Stream.Late.{back-later}
 use Rattle.circ.specs.Chains.{metC1}
-use Rattle.erasures.specs.Agreeing.{handedOn}
+use Rattle.codeword.specs.Nearest.{foundOr}
 use Rattle.circ.specs.Codes.{qOf, pOf, corrected}
 use Rattle.circ_streams.specs.Inner.Codes.{circ-coding, circ-correcting}
 use Rattle.circ_streams.specs.Inner.ReaderRows.{length-met-c1, bytes-met-c1}
@@ -32,7 +32,7 @@ module _ (f : ℕ → List ℕ) (frames : F1Frames f) (g k : ℕ → List ℕ) (
 
   mended : (n : ℕ) → corrected (metC1 g n) ≡ lateC1 qOf pOf f n
   unfolding corrected
-  mended n = ap (handedOn (metC1 g n)) (nearest-complete 4 (metC1 g n) (bytes-met-c1 g (damaged .long) (damaged .bytes) n) (omega arith) (omega (arith, length-met-c1 g (damaged .long) n)) (lateC1 qOf pOf f n) (near n))
+  mended n = ap (foundOr (metC1 g n)) (nearest-complete 4 (metC1 g n) (bytes-met-c1 g (damaged .long) (damaged .bytes) n) (omega arith) (omega (arith, length-met-c1 g (damaged .long) n)) (lateC1 qOf pOf f n) (near n))
 
   as-before : (n : ℕ) → (f1At g k n ≡ f1Before g n) × (doubtAt g k n ≡ doubtBefore g n)
   as-before = reads-as-before g k damaged marks none (λ n. (lateC1 qOf pOf f n, near n))

@@ -1,21 +1,19 @@
--- What the rows of the frames are: the words written are codewords, each row of an F2-frame waits as it should, each F1 byte is of its C2 word.
+-- What the rows of the frames are: the words written are codewords, and each row of an F2-frame waits as it should.
 -- Assumes nothing.
 use mathlib.Core.Path.{_≡_}
 use mathlib.Core.List.{List}
 use Prim.Native.Nat.{ℕ, _+_, _<_}
 use lib.Bits.{bitXor}
-use lib.ListN.{length, getD}
+use lib.ListN.{getD}
 use Rattle.codeword.specs.Code.{Codeword}
 use Rattle.lines.specs.Stream.{back}
-use Rattle.circ.specs.Rows.{rowsOfBytes, rowDelay, readerAfterC2}
+use Rattle.circ.specs.Rows.{rowsOfBytes, rowDelay}
 use Rattle.circ.specs.Chains.{c2Word, c1Word}
-use Rattle.circ.specs.Codes.{qOf, pOf, treated}
-use Rattle.circ.specs.Marked.{wordMetC2, marksMetC2}
+use Rattle.circ.specs.Codes.{qOf, pOf}
 use Rattle.circ_streams.specs.Inner.Codes.{circ-coding}
 use Rattle.circ_streams.specs.Inner.WriterWords as writing
 use Rattle.circ_streams.specs.Inner.WriterRows as rows
-use Rattle.circ_streams.specs.Inner.MarkedRows.{byte-marked}
-use Rattle.circ_streams.specs.Streams.{F1Frames, MarksOf, f2At, f1At}
+use Rattle.circ_streams.specs.Streams.{F1Frames, f2At}
 
 module _ (f : ℕ → List ℕ) (frames : F1Frames f) where
   -- every C2 word and every C1 word is a codeword
@@ -36,12 +34,3 @@ module _ (f : ℕ → List ℕ) (frames : F1Frames f) where
   -- the row of P byte i, inverted
   pub p-row : (i n : ℕ) → i < 4 → getD (f2At f n) (28 + i) 0 ≡ bitXor (back 0 (λ m. getD (c1Word qOf pOf f m) (28 + i) 0) (rowDelay (28 + i)) n) 255
   p-row i n h = rows.p-written circ-coding f i n h
-
--- ---- any F2-frames, with any marks
-
-module _ (g k : ℕ → List ℕ) (long : (n : ℕ) → length (g n) ≡ 32) (marks : MarksOf k) where
-  -- F1 byte b of step n: of what C2 handed on at that step where its row does not wait after C2, else of what it did two steps before
-  pub byte-of-c2 : (b n : ℕ) → b < 24
-      → getD (f1At g k n) b 0
-      ≡ back 0 (λ m. getD (treated 4 (marksMetC2 g k m) (wordMetC2 g k m)) (getD rowsOfBytes b 0) 0) (getD readerAfterC2 (getD rowsOfBytes b 0) 0) n
-  byte-of-c2 = byte-marked g k long marks

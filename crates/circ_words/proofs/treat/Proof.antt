@@ -9,8 +9,8 @@ use borrow.Author.Needs.{needs}
 use Rattle.circ_words.proofs.treat.Statement.{statement}
 use Rattle.circ_words.proofs.treat.Tie as tie
 
-marked-requires : tie.Need-marked-requires
-marked-requires c κs = search needs
+count-marked-requires : tie.Need-count-marked-requires
+count-marked-requires c κs = search needs
 
 mend-requires : tie.Need-mend-requires
 mend-requires c κs = search needs
@@ -21,10 +21,10 @@ same-length c = search needs
 returns : tie.Need-returns
 returns c =
     let none = c .before .before .before .before in
-    by-nearest _ _ _ _ _ (sym (none .before .marked .ensures) ∙ none .if1 .taken) (c .before .before .mend .ensures)
+    by-nearest _ _ _ _ _ (sym (none .before .count-marked .ensures) ∙ none .if1 .taken) (c .before .before .mend .ensures)
 
 returns-2 : tie.Need-returns-2
-returns-2 c = too-many _ _ _ (omega (arith, c .if2 .taken, c .before .before .marked .ensures))
+returns-2 c = too-many _ _ _ (omega (arith, c .if2 .taken, c .before .before .count-marked .ensures))
 
 fill-requires : tie.Need-fill-requires
 fill-requires c κs = search needs
@@ -39,8 +39,8 @@ returns-3 c =
     let marked = few .before .before in
     let start = marked .before .before .before in
     by-filling (start .args .most) (start .args .marks .now) (start .args .word .now) _ _ true
-    (positive (start .args .marks .now) (λ e. few .before .if1 .left (marked .marked .ensures ∙ e)))
-    (omega (arith, few .if2 .left, marked .marked .ensures))
+    (positive (start .args .marks .now) (λ e. few .before .if1 .left (marked .count-marked .ensures ∙ e)))
+    (omega (arith, few .if2 .left, marked .count-marked .ensures))
     (fill .fill .ensures)
     (c .if3 .taken)
 
@@ -54,8 +54,8 @@ returns-4 c =
     let marked = few .before .before in
     let start = marked .before .before .before in
     by-filling (start .args .most) (start .args .marks .now) (start .args .word .now) _ _ false
-    (positive (start .args .marks .now) (λ e. few .before .if1 .left (marked .marked .ensures ∙ e)))
-    (omega (arith, few .if2 .left, marked .marked .ensures))
+    (positive (start .args .marks .now) (λ e. few .before .if1 .left (marked .count-marked .ensures ∙ e)))
+    (omega (arith, few .if2 .left, marked .count-marked .ensures))
     (fill .fill .ensures)
     (c .if3 .left)
 
@@ -63,7 +63,7 @@ pub treat-spec : {M : Type 1} → statement M
 treat-spec =
     tie.close
     (tie.spec
-    marked-requires
+    count-marked-requires
     mend-requires
     same-length
     returns

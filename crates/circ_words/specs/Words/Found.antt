@@ -10,8 +10,8 @@ use borrow.Author.Tests.{eq-eqb, ne-eqb, le-leb, lt-leb, leb-true}
 use lib.Dec.{eqb, leb}
 use lib.ListN.{length}
 use Rattle.codeword.specs.Code.{weight}
-use Rattle.codeword.specs.Nearest.{nearest}
-use Rattle.erasures.specs.Agreeing.{agreeing, handedOn}
+use Rattle.codeword.specs.Nearest.{nearest, foundOr}
+use Rattle.erasures.specs.Agreeing.{agreeing}
 use Rattle.filling.specs.Fill.{filled}
 use Rattle.filling.specs.Fill.WaysOut.{filled-within}
 use Rattle.circ.specs.Codes.{markOf, foundFor, treated, doubted}
@@ -50,6 +50,6 @@ module _ (most : ℕ) (m w : List ℕ) where
     unfolding treated doubted
     treats out mark h =
         record {
-          hands-on = ap (handedOn w) (sym found-for) ∙ sym (h .leaves);
+          hands-on = ap (foundOr w) (sym found-for) ∙ sym (h .leaves);
           marks = ap markOf (sym found-for) ∙ sym (h .answer);
         }

@@ -3,25 +3,21 @@
 use mathlib.Core.Path.{_≡_, refl, sym, ap, ap₂, _∙_}
 use mathlib.Core.Bool.{Bool, true, false, cond, _&&_}
 use mathlib.Core.List.{List}
-use mathlib.Core.Option.{some}
-use Prim.Native.Nat.{ℕ, zero, suc, _*_, _≤_, _<_}
+use Prim.Native.Nat.{ℕ, zero, suc, _*_, _<_}
 use native.Mathlib.Decide.{ℕ-discrete}
 use native.Mathlib.Omega.{arith}
 use lib.Bits.{bitXor, xor-self}
 use lib.Dec.{eqb, ltb}
-use lib.ListN.{length, getD, set}
-use borrow.Author.Tests.{eq-eqb, ne-eqb, le-ltb, ltb-true}
-use Rattle.outcome.specs.Bytes.{Bytes}
+use lib.ListN.{length, getD}
+use borrow.Author.Tests.{eq-eqb, ne-eqb, ltb-true}
 use Rattle.outcome.specs.First.{firstBelow}
 use Rattle.outcome.specs.First.Found.{first-below, found-first}
 use Rattle.outcome.specs.Table.{allBelow}
 use Rattle.outcome.specs.Table.Entries.{length-tabulated, tabulated-at}
 use Rattle.xor.specs.Xor.Group.{xor-equal}
 use Rattle.field.specs.Field.{power, mul}
-use Rattle.codeword.specs.Code.{sum, sums, Codeword, Near}
+use Rattle.codeword.specs.Code.{sum, sums}
 use Rattle.codeword.specs.Nearest.{isCodeword, placeBefore, newByte, changed, bytesAfter, verdict, mended, nearest}
-use Rattle.codeword.specs.Nearest.Finds.{nearest-sound, nearest-complete, nearest-none}
-use Rattle.codeword.specs.Code.NearOne.{test-of-code}
 use Rattle.codeword.specs.Fault.{allZero, fits, fault, cure}
 use Rattle.codeword.specs.Code.Sums.{sum-set}
 use Rattle.codeword.specs.declared.Fault.{Fault}
@@ -113,26 +109,3 @@ fault-inside s k i v e = go (ltb 255 k) (allZero s) (ltb (firstBelow (fits s) k)
     go false false true t e =
         let p : placeBefore (firstBelow (fits s) k) k ≡ i = cc in
         omega (arith, ltb-true (firstBelow (fits s) k) k t)
-
--- ---- what each fault means for the word
-
-module _ (J : ℕ) (w : List ℕ) (hb : Bytes w) (hj : 2 ≤ J) where
-  fault-near : (f : Fault) (c : List ℕ) → fault (sums J w) (length w) ≡ f → mended w (cure w f) ≡ some c → Near J w c
-  fault-near f c e p = nearest-sound J w hb c (nearest-by-sums J w (omega arith) ∙ ap (λ (x : Fault). mended w (cure w x)) e ∙ p)
-
-  pub fault-clean : fault (sums J w) (length w) ≡ faults.Clean → Codeword J w
-  fault-clean e = fault-near faults.Clean w e refl .code
-
-  pub fault-at : (i v : ℕ) → fault (sums J w) (length w) ≡ faults.At i v → Near J w (set w i (bitXor (getD w i 0) v))
-  fault-at i v e = fault-near (faults.At i v) (set w i (bitXor (getD w i 0) v)) e refl
-
-  pub fault-lost : length w ≤ 255 → fault (sums J w) (length w) ≡ faults.Lost → (c : List ℕ) → Near J w c → ⊥
-  fault-lost k e = nearest-none J w hb hj k (nearest-by-sums J w (omega arith) ∙ ap (λ (x : Fault). mended w (cure w x)) e)
-
-  -- a codeword has no fault, and what is near is found
-  pub code-fault : length w ≤ 255 → Codeword J w → fault (sums J w) (length w) ≡ faults.Clean
-  unfolding fault
-  code-fault k c = rw (le-ltb 255 (length w) k, ← zero-code J w, test-of-code J w c)
-
-  pub fault-complete : length w ≤ 255 → (c : List ℕ) → Near J w c → mended w (cure w (fault (sums J w) (length w))) ≡ some c
-  fault-complete k c n = sym (nearest-by-sums J w (omega arith)) ∙ nearest-complete J w hb hj k c n

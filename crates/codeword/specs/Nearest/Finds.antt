@@ -86,32 +86,16 @@ module _ (J : ℕ) (w : List ℕ) (hb : Bytes w) where
   nearest-none hj k e c n =
       let p : nearest J w ≡ some c = nearest-complete hj k c n in
       let z : _≡_ {A = ℕ} 0 1 = cc in omega arith
-
   -- and where nothing is near, nothing is found
-  pub nearest-lost : ((c : List ℕ) → Near J w c → ⊥) → nearest J w ≡ none
-  nearest-lost n = go (nearest J w) refl
-    where
-      go : (r : Option (List ℕ)) → nearest J w ≡ r → r ≡ none
-      go none e = refl
-      go (some c) e = absurd (n c (nearest-sound c e))
 
 -- ---- the verdict
 
--- a codeword is clean, and only a codeword is
+-- a codeword is clean
 pub verdict-code : (J : ℕ) (w : List ℕ) → length w ≤ 255 → Codeword J w → verdict J w ≡ Clean
 unfolding verdict
 verdict-code J w k c = rw (le-ltb 255 (length w) k, test-of-code J w c)
-
-pub code-verdict : (J : ℕ) (w : List ℕ) → Bytes w → verdict J w ≡ Clean → Codeword J w
-unfolding nearest
-code-verdict J w hb e = nearest-sound J w hb w (ap (mended w) e) .code
 
 -- so a codeword comes back as it is
 pub nearest-code : (J : ℕ) (w : List ℕ) → length w ≤ 255 → Codeword J w → nearest J w ≡ some w
 unfolding nearest
 nearest-code J w k c = ap (mended w) (verdict-code J w k c)
-
--- more than 255 bytes are lost
-pub verdict-long : (J : ℕ) (w : List ℕ) → 255 < length w → verdict J w ≡ Lost
-unfolding verdict
-verdict-long J w h = rw (lt-ltb 255 (length w) h)

@@ -1,4 +1,4 @@
--- Parity in two bytes in a row, and in four, anywhere in a word of any length: there is a choice. (`ParityLaws`: only one.)
+-- Parity in two bytes in a row, and in four, anywhere in a word of any length: there is a choice. (Parity/One: only one.)
 -- Assumes nothing.
 use mathlib.Core.Path.{_≡_, refl, sym, ap, _∙_, subst}
 use mathlib.Core.List.{List, [], _∷_, _++_, map}

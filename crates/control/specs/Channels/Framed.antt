@@ -14,7 +14,8 @@ use Rattle.crc.specs.Crc.{crc}
 use Rattle.crc.specs.Crc.Bits.{binary-unpack, length-crc, binary-crc}
 use Rattle.control.specs.declared.Control.{Control}
 use Rattle.control.specs.Channels.{fieldBits, qChannel, pBit, framed, controlBytes}
-use Rattle.control.specs.Inner.FieldBytes.{fieldBytes, length-fields, field-bits}
+use Rattle.control.specs.FieldBytes.{fieldBytes}
+use Rattle.control.specs.FieldBytes.Bits.{length-fields, field-bits}
 
 -- ---- bits
 

@@ -22,7 +22,7 @@ use Rattle.control.specs.declared.QData.the-variants.{UserData, LeadOut,
 use Rattle.control.specs.declared.Control.{Control}
 use Rattle.control.specs.Fields.{trackNumber, decimalDigits, allowedItem, allowedData, allowed}
 use Rattle.control.specs.Channels.{controlField, qMode, nineFields, itemFields}
-use Rattle.control.specs.Inner.FieldBytes.{catalogBytes, dataBytes, fieldBytes}
+use Rattle.control.specs.FieldBytes.{catalogBytes, dataBytes, fieldBytes}
 
 -- both of two tests
 pub both : (a b : Bool) → (a && b) ≡ true → (a ≡ true) × (b ≡ true)

@@ -21,7 +21,7 @@ use Rattle.control.specs.declared.QData.the-variants.{UserData, LeadOut, LeadIn
 use Rattle.control.specs.declared.Control.{Control}
 use Rattle.control.specs.Fields.{trackNumber, decimalDigits, allowedItem, allowedData, allowed}
 use Rattle.control.specs.Channels.{controlField, qMode, itemFields}
-use Rattle.control.specs.Inner.FieldBytes.{catalogBytes, dataBytes, fieldBytes}
+use Rattle.control.specs.FieldBytes.{catalogBytes, dataBytes, fieldBytes}
 use Rattle.control.specs.Inner.Small.{both, track-lt, mode-lt}
 use Rattle.control_fields.specs.Found.{copyingIn, itemIn, digitsIn, dataIn, fieldsIn}
 

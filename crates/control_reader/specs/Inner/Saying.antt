@@ -24,7 +24,8 @@ use Rattle.control.specs.Fields.{allowed}
 use Rattle.control.specs.Channels.{controlField, qMode, dataBits, fieldBits, qChannel, pBit, controlBytes}
 use Rattle.control.specs.Channels.Framed as sizes
 use Rattle.control.specs.Values.{valuesOf}
-use Rattle.control.specs.Inner.FieldBytes.{fieldBytes, length-fields, field-bits}
+use Rattle.control.specs.FieldBytes.{fieldBytes}
+use Rattle.control.specs.FieldBytes.Bits.{length-fields, field-bits}
 use Rattle.control.specs.Inner.Small.{both, bytes-fields}
 use Rattle.control_fields.specs.Found.{fieldsIn}
 use Rattle.control_fields.specs.Found.Back.{fields-found}

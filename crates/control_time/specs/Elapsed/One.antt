@@ -6,7 +6,7 @@ use native.Mathlib.Omega.{arith}
 use borrow.Author.Tests.{ltb-false}
 use lib.Dec.{T, ltb}
 use Rattle.outcome.specs.Table.Entries.{and-left, and-right, true-of, of-true}
-use Rattle.digits.specs.Digits.{decimal, twoDigits}
+use Rattle.digits.specs.Digits.{valueOfDigits, twoDigits}
 use Rattle.digits.specs.Digits.One.{within, decimal-one}
 use Rattle.control_time.specs.declared.ControlTime.{ControlTime}
 use Rattle.control_time.specs.Elapsed.{inRange, elapsed}
@@ -36,9 +36,9 @@ elapsed-one a b h k e =
     let sb = within 59 (b .1) (sec-right b k) in
     let fa = within 74 (a .2) (frac-right a h) in
     let fb = within 74 (b .2) (frac-right b k) in
-    let m : decimal (a .0) ≡ decimal (b .0) = omega arith in
-    let s : decimal (a .1) ≡ decimal (b .1) = omega arith in
-    let f : decimal (a .2) ≡ decimal (b .2) = omega arith in
+    let m : valueOfDigits (a .0) ≡ valueOfDigits (b .0) = omega arith in
+    let s : valueOfDigits (a .1) ≡ valueOfDigits (b .1) = omega arith in
+    let f : valueOfDigits (a .2) ≡ valueOfDigits (b .2) = omega arith in
     let p = decimal-one 99 99 (a .0) (b .0) (min-right a h) (min-right b k) m in
     let q = decimal-one 59 59 (a .1) (b .1) (sec-right a h) (sec-right b k) s in
     let r = decimal-one 74 74 (a .2) (b .2) (frac-right a h) (frac-right b k) f in

@@ -6,7 +6,7 @@ use borrow.Author.Tests.{not-true, not-false}
 use lib.ListN.{length}
 use Rattle.outcome.specs.Buffer.Lengths.{same-lengths}
 use Rattle.control.specs.Channels.{pBit, framed}
-use Rattle.control.specs.Inner.FieldBytes.{fieldBytes}
+use Rattle.control.specs.FieldBytes.{fieldBytes}
 use Rattle.control_writer.specs.Inner.Coded.{control-coded}
 use Rattle.control_writer.proofs.WaysOut.{on-length, on-fields, on-done}
 use Rattle.control_writer.proofs.write_control.Statement.{statement}

@@ -14,7 +14,8 @@ use Rattle.crc.specs.Crc.{crc}
 use Rattle.crc.specs.Crc.Bits.{binary-unpack, length-crc, binary-crc}
 use Rattle.control.specs.declared.Control.{Control}
 use Rattle.control.specs.Channels.{qChannel, pBit, framed, controlBytes}
-use Rattle.control.specs.Inner.FieldBytes.{fieldBytes, field-bits}
+use Rattle.control.specs.FieldBytes.{fieldBytes}
+use Rattle.control.specs.FieldBytes.Bits.{field-bits}
 
 abbrev pub coded : List ℕ → List ℕ
 coded bytes = unpack bytes ++ crc (unpack bytes)

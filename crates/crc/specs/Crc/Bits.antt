@@ -11,7 +11,8 @@ use Rattle.bits.specs.Bits.{bitsOf, number, unpack, pack}
 use Rattle.bits.specs.Bits.Numbers.{bits-split, bits-low, bits-number, number-lt}
 use Rattle.bits.specs.Bits.Packed.{packed}
 use Rattle.bits.specs.Binary.{Binary}
-use Rattle.bits.specs.Binary.Parts.{binary-append, binary-bits}
+use Rattle.bits.specs.Binary.Parts.{binary-append}
+use Rattle.division.specs.Polynomial.Bytes.{coefs-unpack}
 use Rattle.division.specs.Polynomial.Lengths.{coefs-zeros}
 use Rattle.division.specs.Division.{divided, remainder, check}
 use Rattle.crc.specs.Crc.{checkPolynomial, inverted, crc}
@@ -44,9 +45,7 @@ number-inverted a b (c ∷ cs) h =
 -- ---- the bits of bytes
 
 pub binary-unpack : (xs : List ℕ) → Binary (unpack xs)
-unfolding unpack
-binary-unpack [] = tt
-binary-unpack (x ∷ xs) = binary-append (bitsOf 8 x) (unpack xs) (binary-bits 8 x) (binary-unpack xs)
+binary-unpack = coefs-unpack
 
 -- ---- what is left
 

@@ -1,4 +1,4 @@
--- Sector Information and its bits say each other: the bits of a frame's fields are those fields, and a first byte without reserved bits is that of its bits.
+-- Sector Information and its bits say each other: the bits of a frame's fields are those fields, and a first byte whose reserved bits are ZERO is that of its bits.
 -- Assumes nothing.
 use mathlib.Core.Path.{_≡_, refl, sym, ap, _∙_}
 use mathlib.Core.Bool.{Bool, true, false, cond}
@@ -13,15 +13,15 @@ use Rattle.outcome.specs.Table.{allBelow}
 use Rattle.outcome.specs.Table.Entries.{below}
 use Rattle.bits.specs.Bits.{number}
 use Rattle.data_frame.specs.declared.Fields.{Fields}
-use Rattle.data_frame.specs.DataFrame.{bit, information, identification, copyright, copyrightIn, bitOf, unreserved, fieldsOf}
+use Rattle.data_frame.specs.DataFrame.{bit, information, identification, copyright, copyrightIn, bitOf, reservedAreZero, fieldsOf}
 
 -- figure 18 of four bits
 abbrev figure : Bool → Bool → Bool → Bool → ℕ
 figure b29 b27 b26 b24 = number 0 (0 ∷ 0 ∷ bit b29 ∷ 0 ∷ bit b27 ∷ bit b26 ∷ 0 ∷ bit b24 ∷ [])
 
-information-bits : (b29 b27 b26 b24 : Bool) → (unreserved (figure b29 b27 b26 b24) ≡ true) × (eqb (bitOf 29 (figure b29 b27 b26 b24)) 1 ≡ b29)
+information-bits : (b29 b27 b26 b24 : Bool) → (reservedAreZero (figure b29 b27 b26 b24) ≡ true) × (eqb (bitOf 29 (figure b29 b27 b26 b24)) 1 ≡ b29)
     × (eqb (bitOf 27 (figure b29 b27 b26 b24)) 1 ≡ b27) × (eqb (bitOf 26 (figure b29 b27 b26 b24)) 1 ≡ b26) × (eqb (bitOf 24 (figure b29 b27 b26 b24)) 1 ≡ b24)
-unfolding unreserved
+unfolding reservedAreZero
 information-bits true true true true = (refl, refl, refl, refl, refl)
 information-bits true true true false = (refl, refl, refl, refl, refl)
 information-bits true true false true = (refl, refl, refl, refl, refl)
@@ -40,20 +40,20 @@ information-bits false false false true = (refl, refl, refl, refl, refl)
 information-bits false false false false = (refl, refl, refl, refl, refl)
 
 -- no bit that is reserved is set in Sector Information
-pub information-unreserved : (f : Fields) → unreserved (information f) ≡ true
+pub information-reserved-zero : (f : Fields) → reservedAreZero (information f) ≡ true
 unfolding information
-information-unreserved f = information-bits (f .reflectivity) (f .zone .0) (f .zone .1) (f .layer) .0
+information-reserved-zero f = information-bits (f .reflectivity) (f .zone .0) (f .zone .1) (f .layer) .0
 
 -- ---- computed over all 256 first bytes
 
 first-test : ℕ → Bool
-first-test x = cond (unreserved x) (eqb (figure (eqb (bitOf 29 x) 1) (eqb (bitOf 27 x) 1) (eqb (bitOf 26 x) 1) (eqb (bitOf 24 x) 1)) x) true
+first-test x = cond (reservedAreZero x) (eqb (figure (eqb (bitOf 29 x) 1) (eqb (bitOf 27 x) 1) (eqb (bitOf 26 x) 1) (eqb (bitOf 24 x) 1)) x) true
 
 first-passes : T (allBelow first-test 256)
-unfolding first-test unreserved
+unfolding first-test reservedAreZero
 first-passes = tt
 
-first-byte : (x : ℕ) → x < 256 → unreserved x ≡ true → figure (eqb (bitOf 29 x) 1) (eqb (bitOf 27 x) 1) (eqb (bitOf 26 x) 1) (eqb (bitOf 24 x) 1) ≡ x
+first-byte : (x : ℕ) → x < 256 → reservedAreZero x ≡ true → figure (eqb (bitOf 29 x) 1) (eqb (bitOf 27 x) 1) (eqb (bitOf 26 x) 1) (eqb (bitOf 24 x) 1) ≡ x
 unfolding first-test
 first-byte x h e =
     let y : ℕ = figure (eqb (bitOf 29 x) 1) (eqb (bitOf 27 x) 1) (eqb (bitOf 26 x) 1) (eqb (bitOf 24 x) 1) in
@@ -93,8 +93,8 @@ fields-back f frame e c =
     }
 
 module _ (frame : List ℕ) (bytes : Bytes frame) (long : length frame ≡ 2064) where
-  -- a frame without reserved bits has the ID of its fields
-  pub id-back : unreserved (getD frame 0 0) ≡ true → take 4 frame ≡ identification (fieldsOf frame)
+  -- a frame whose reserved bits are ZERO has the ID of its fields
+  pub id-back : reservedAreZero (getD frame 0 0) ≡ true → take 4 frame ≡ identification (fieldsOf frame)
   unfolding fieldsOf information
   id-back e =
       ext-getD 0 (take 4 frame) (identification (fieldsOf frame)) (length-take-le 4 frame (omega arith))

@@ -2,30 +2,9 @@
 -- Assumes nothing.
 use mathlib.Core.Path.{_≡_, refl, sym, ap, _∙_}
 use mathlib.Core.Bool.{Bool, true, false}
-use mathlib.Core.List.{List}
-use Prim.Native.Nat.{ℕ}
 use lib.Dec.{eqb}
-use lib.ListN.{getD}
 use Rattle.data_frame.specs.declared.Fields.{Fields}
-use Rattle.data_frame.specs.DataFrame.{bit, values}
-
-abbrev pub fieldsFrom : List ℕ → Fields
-fieldsFrom v =
-    record {
-      reflectivity = eqb (getD v 0 0) 1;
-      zone = record { 0 = eqb (getD v 1 0) 1; 1 = eqb (getD v 2 0) 1 };
-      layer = eqb (getD v 3 0) 1;
-      number = record { 0 = getD v 4 0; 1 = getD v 5 0; 2 = getD v 6 0 };
-      copyright =
-          record {
-            0 = getD v 7 0;
-            1 = getD v 8 0;
-            2 = getD v 9 0;
-            3 = getD v 10 0;
-            4 = getD v 11 0;
-            5 = getD v 12 0;
-          };
-    }
+use Rattle.data_frame.specs.DataFrame.{bit, values, fieldsFrom}
 
 bit-back : (b : Bool) → eqb (bit b) 1 ≡ b
 bit-back true = refl

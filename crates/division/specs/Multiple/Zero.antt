@@ -16,19 +16,15 @@ use Rattle.division.specs.Division.Linear.{divided-plus, come-down}
 use Rattle.division.specs.Division.Check.{remainder-self}
 use Rattle.division.specs.Multiple.{Multiple}
 
+-- a number times a polynomial whose highest coefficient is 1
+scaled-first : (q : ℕ) (d : List ℕ) → getD d 0 0 ≡ 1 → scaled q d ≡ q ∷ scaled q (drop 1 d)
+scaled-first q [] e = absurd (omega arith)
+scaled-first q (c ∷ low) e = let p : q * c ≡ q = ap (λ (x : ℕ). q * x) e ∙ omega arith in λ i. p i ∷ scaled q low
+
 -- d is 1 and then w coefficients, at least one
-module _ (w : ℕ) (low : List ℕ) (some : 1 ≤ w) (long : length low ≡ w) (coefs-low : Coefficients low) where
-  abbrev d : List ℕ
-  d = 1 ∷ low
-
-  coefs : Coefficients d
-  coefs = (omega arith, coefs-low)
-
-  as-long : length d ≡ suc w
-  as-long = ap suc long
-
+module _ (w : ℕ) (d : List ℕ) (some : 1 ≤ w) (long : length d ≡ suc w) (coefs : Coefficients d) (one : getD d 0 0 ≡ 1) where
   few : length d - 1 ≡ w
-  few = omega (arith, as-long)
+  few = omega (arith, long)
 
   -- ---- the divisor taken away and added again
 
@@ -36,7 +32,12 @@ module _ (w : ℕ) (low : List ℕ) (some : 1 ≤ w) (long : length low ≡ w) (
   whole : (r : List ℕ) (c : ℕ) → Coefficients r → length r ≡ w → plus (r ++ (c ∷ [])) (scaled (getD r 0 0) d) ≡ 0 ∷ brought d r c
   unfolding brought
   whole [] c h l = absurd (omega arith)
-  whole (q ∷ r) c h l = let e : (q + q * 1) % 2 ≡ 0 = omega arith in λ i. e i ∷ plus (r ++ (c ∷ [])) (scaled q low)
+  whole (q ∷ r) c h l =
+      let t : List ℕ = r ++ (c ∷ []) in
+      let e : (q + q) % 2 ≡ 0 = omega arith in
+      let p : plus (q ∷ t) (scaled q d) ≡ (q + q) % 2 ∷ plus t (scaled q (drop 1 d)) = ap (plus (q ∷ t)) (scaled-first q d one) in
+      let f : brought d (q ∷ r) c ≡ plus t (scaled q (drop 1 d)) = ap (drop 1) p in
+      p ∙ λ i. e i ∷ sym f i
 
   first-lt : (r : List ℕ) → Coefficients r → getD r 0 0 < 2
   first-lt [] h = omega arith
@@ -46,7 +47,7 @@ module _ (w : ℕ) (low : List ℕ) (some : 1 ≤ w) (long : length low ≡ w) (
   back r c h k l =
       let q : List ℕ = scaled (getD r 0 0) d in
       let rc : List ℕ = r ++ (c ∷ []) in
-      let lq : length q ≡ suc w = length-scaled (getD r 0 0) d ∙ as-long in
+      let lq : length q ≡ suc w = length-scaled (getD r 0 0) d ∙ long in
       let lr : length rc ≡ suc w = omega (arith, length-append r (c ∷ [])) in
       ap (plus q) (sym (whole r c h l) ∙ plus-comm rc q)
       ∙ sym (plus-assoc q q rc)
@@ -79,10 +80,10 @@ module _ (w : ℕ) (low : List ℕ) (some : 1 ≤ w) (long : length low ≡ w) (
       let qs : List ℕ = quotientOf b cs in
       let n : length qs ≡ length cs = length-quotient b cs in
       let zs : List ℕ = replicate (length qs) 0 in
-      let lb : length b ≡ w = length-brought d w as-long r c l in
+      let lb : length b ≡ w = length-brought d w long r c l in
       plus-assoc (q ++ zs) (0 ∷ product d qs) (0 ∷ (replicate (length cs) 0 ++ divided d b cs))
       ∙ ap (λ (t : List ℕ). plus (q ++ zs) (0 ∷ t)) (divided-whole b cs (coefs-brought d r c) (k .1) lb)
-      ∙ plus-append q (0 ∷ b) zs cs (omega (arith, length-scaled (getD r 0 0) d, as-long))
+      ∙ plus-append q (0 ∷ b) zs cs (omega (arith, length-scaled (getD r 0 0) d, long))
       ∙ ap₂ (λ (x y : List ℕ). x ++ y) (back r c h (k .0) l) (zeros-plus (length qs) cs (sym n) (k .1))
       ∙ append-assoc r (c ∷ []) cs
 
@@ -94,7 +95,7 @@ module _ (w : ℕ) (low : List ℕ) (some : 1 ≤ w) (long : length low ≡ w) (
   length-part : (q n : ℕ) → length (part q n) ≡ suc w + n
   unfolding part
   length-part q n =
-      length-append (scaled q d) (replicate n 0) ∙ ap₂ (λ (x y : ℕ). x + y) (length-scaled q d ∙ as-long) (length-replicate {A = ℕ} n 0)
+      length-append (scaled q d) (replicate n 0) ∙ ap₂ (λ (x y : ℕ). x + y) (length-scaled q d ∙ long) (length-replicate {A = ℕ} n 0)
 
   pub length-product : (qs : List ℕ) → length (product d qs) ≡ w + length qs
   unfolding part
@@ -116,7 +117,7 @@ module _ (w : ℕ) (low : List ℕ) (some : 1 ≤ w) (long : length low ≡ w) (
       let joined : r ++ es ≡ cs = take-append-drop w cs in
       let p : List ℕ = product d (quotientOf r es) in
       let left : divided d r es ≡ replicate w 0
-      = ap (λ (t : List ℕ). divided d t es) (sym (remainder-self w d as-long coefs r hr lr))
+      = ap (λ (t : List ℕ). divided d t es) (sym (remainder-self w d long coefs r hr lr))
       ∙ sym (remainder-append d r es) ∙ ap (remainder d) joined ∙ z in
       let e : n + w ≡ length p = omega (arith, length-product (quotientOf r es), length-quotient r es) in
       let zs : replicate n 0 ++ divided d r es ≡ replicate (length p) 0
@@ -140,7 +141,7 @@ module _ (w : ℕ) (low : List ℕ) (some : 1 ≤ w) (long : length low ≡ w) (
       let z : replicate {A = ℕ} w 0 ≡ replicate 1 0 ++ replicate v 0 = ap (λ (n : ℕ). replicate n 0) e ∙ sym (replicate-append-replicate 1 v 0) in
       let y : replicate {A = ℕ} v 0 ++ (0 ∷ []) ≡ replicate w 0 = replicate-append-replicate v 1 0 ∙ ap (λ (n : ℕ). replicate n 0) f in
       ap (λ (t : List ℕ). brought d t 0) z
-      ∙ come-down d coefs (replicate v 0) (0 ∷ []) (coefs-zeros v) (omega arith, tt) (omega (arith, as-long, length-replicate {A = ℕ} v 0))
+      ∙ come-down d coefs (replicate v 0) (0 ∷ []) (coefs-zeros v) (omega arith, tt) (omega (arith, long, length-replicate {A = ℕ} v 0))
       ∙ y
 
   zeros-stay : (n : ℕ) → divided d (replicate w 0) (replicate n 0) ≡ replicate w 0
@@ -158,7 +159,7 @@ module _ (w : ℕ) (low : List ℕ) (some : 1 ≤ w) (long : length low ≡ w) (
       let l : length z ≡ w = length-replicate {A = ℕ} w 0 in
       from-zeros (plus a b)
       ∙ ap (λ (t : List ℕ). divided d t (plus a b)) (sym (zeros-plus w z l (coefs-zeros w)))
-      ∙ divided-plus d coefs w as-long z z a b (coefs-zeros w) (coefs-zeros w) l l e
+      ∙ divided-plus d coefs w long z z a b (coefs-zeros w) (coefs-zeros w) l l e
       ∙ ap₂ plus (sym (from-zeros a)) (sym (from-zeros b))
 
   remainder-divisor : (q : ℕ) → q < 2 → remainder d (scaled q d) ≡ replicate w 0
@@ -167,17 +168,17 @@ module _ (w : ℕ) (low : List ℕ) (some : 1 ≤ w) (long : length low ≡ w) (
       let l : List ℕ = scaled q d in
       let r : List ℕ = take w l in
       let c : ℕ = getD l w 0 in
-      let ll : length l ≡ suc w = length-scaled q d ∙ as-long in
+      let ll : length l ≡ suc w = length-scaled q d ∙ long in
       let hl : Coefficients l = coefs-scaled q d h coefs in
       let lr : length r ≡ w = length-take-le w l (omega arith) in
       let joined : r ++ (c ∷ []) ≡ l = sym (take-suc l w 0 (omega arith)) ∙ take-all (suc w) l (omega arith) in
-      let first : getD r 0 0 ≡ q = getD-take w l 0 0 (omega arith) ∙ omega arith in
+      let first : getD r 0 0 ≡ q = getD-take w l 0 0 (omega arith) ∙ ap (λ (t : List ℕ). getD t 0 0) (scaled-first q d one) in
       let gone : 0 ∷ brought d r c ≡ 0 ∷ replicate w 0
       = sym (whole r c (binary-take w l hl) lr) ∙ ap₂ (λ (x : List ℕ) (y : ℕ). plus x (scaled y d)) joined first ∙ plus-self l
       ∙ ap (λ (n : ℕ). replicate n 0) ll in
       ap (remainder d) (sym joined)
       ∙ remainder-append d r (c ∷ [])
-      ∙ ap (λ (t : List ℕ). brought d t c) (remainder-self w d as-long coefs r (binary-take w l hl) lr)
+      ∙ ap (λ (t : List ℕ). brought d t c) (remainder-self w d long coefs r (binary-take w l hl) lr)
       ∙ ap (drop 1) gone
 
   product-none : (qs : List ℕ) → Coefficients qs → remainder d (product d qs) ≡ replicate w 0

@@ -17,15 +17,21 @@ use Rattle.division.specs.Polynomial.{isZero}
 false-true : false ≡ true → ⊥
 false-true e = let z : _≡_ {A = ℕ} 0 1 = cc in omega arith
 
--- a list that passes is all zeros, and zeros pass
-pub zero-is : (cs : List ℕ) → isZero cs ≡ true → cs ≡ replicate (length cs) 0
-zero-is [] e = refl
-zero-is (zero ∷ cs) e = ap (λ (l : List ℕ). 0 ∷ l) (zero-is cs e)
-zero-is (suc c ∷ cs) e = absurd (false-true (sym (ap (λ (b : Bool). b && isZero cs) (eqb·suc-zero c)) ∙ e))
+all-zeros : (cs : List ℕ) → isZero cs ≡ true → cs ≡ replicate (length cs) 0
+all-zeros [] e = refl
+all-zeros (zero ∷ cs) e = ap (λ (l : List ℕ). 0 ∷ l) (all-zeros cs e)
+all-zeros (suc c ∷ cs) e = absurd (false-true (sym (ap (λ (b : Bool). b && isZero cs) (eqb·suc-zero c)) ∙ e))
 
-pub is-zero : (n : ℕ) → isZero (replicate n 0) ≡ true
-is-zero zero = refl
-is-zero (suc n) = is-zero n
+zeros-pass : (n : ℕ) → isZero (replicate n 0) ≡ true
+zeros-pass zero = refl
+zeros-pass (suc n) = zeros-pass n
+
+-- of lists of n coefficients just that of zeros passes
+pub zero-is : (n : ℕ) (cs : List ℕ) → length cs ≡ n → isZero cs ≡ true → cs ≡ replicate n 0
+zero-is n cs l e = all-zeros cs e ∙ ap (λ (k : ℕ). replicate k 0) l
+
+pub is-zero : (n : ℕ) (cs : List ℕ) → cs ≡ replicate n 0 → isZero cs ≡ true
+is-zero n cs e = ap isZero e ∙ zeros-pass n
 
 -- the same test on the number
 pub zero-number : (cs : List ℕ) → isZero cs ≡ eqb (number 0 cs) 0

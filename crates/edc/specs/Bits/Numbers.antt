@@ -1,4 +1,4 @@
--- Lists of bits as numbers, the first bit the lowest: to add modulo 2 is `bitXor`, and a list is known by its length and its numberLowFirst.
+-- Lists of bits as numbers, the first bit the lowest: to add modulo 2 is `bitXor`, and a list is known by its length and its number.
 -- Assumes nothing.
 use mathlib.Core.Path.{_≡_, refl, sym, ap, ap₂, _∙_}
 use mathlib.Core.List.{List, [], _∷_, _++_}
@@ -78,7 +78,7 @@ number-scaled q (c ∷ cs) =
     let f : q * (numberLowFirst cs * 2) ≡ q * numberLowFirst cs * 2 = sym (mul-assoc q (numberLowFirst cs) 2) in
     omega (arith, mul-add q c (numberLowFirst cs * 2))
 
--- ---- a list of bits is known by its length and its numberLowFirst
+-- ---- a list of bits is known by its length and its number
 
 pub number-inj : (cs ds : List ℕ) → Coefficients cs → Coefficients ds → length cs ≡ length ds → numberLowFirst cs ≡ numberLowFirst ds → cs ≡ ds
 unfolding numberLowFirst
@@ -93,7 +93,7 @@ number-inj (c ∷ cs) (d ∷ ds) h k e z =
     let r : cs ≡ ds = number-inj cs ds (h .1) (k .1) (suc-inj e) q in
     λ i. p i ∷ r i
 
--- ---- bits of a numberLowFirst
+-- ---- bits of a number
 
 pub number-bitsOf : (n b : ℕ) → b < 2 ^ n → numberLowFirst (bitsLowFirst n b) ≡ b
 unfolding numberLowFirst
@@ -119,7 +119,7 @@ pub number-byte : (b : ℕ) (bytes : List ℕ) → b < 256 → numberLowFirst (b
 number-byte b bytes h =
     number-append (bitsLowFirst 8 b) (bits bytes) ∙ ap₂ (λ (x n : ℕ). x + numberLowFirst (bits bytes) * 2 ^ n) (number-bitsOf 8 b h) (length-bitsOf 8 b)
 
--- the first eight bits are the lowest byte of the numberLowFirst, and the others the rest of it
+-- the first eight bits are the lowest byte of the number, and the others the rest of it
 pub first-byte : (cs : List ℕ) → 8 ≤ length cs → numberLowFirst cs ≡ numberLowFirst (drop 8 cs) * 256 + numberLowFirst (take 8 cs)
 first-byte cs l =
     let e : length (take 8 cs) ≡ 8 = length-take-le 8 cs l in

@@ -3,23 +3,22 @@
 use mathlib.Core.Path.{_≡_, refl, sym, ap, ap₂, _∙_, subst}
 use mathlib.Core.List.{List, [], _∷_, _++_}
 use Prim.Native.Nat.{ℕ, _+_, _-_, _*_, _/_, _%_, _^_, _<_}
-use native.Mathlib.Nat.{zero-add}
 use native.Mathlib.Omega.{arith}
 use lib.Bits.{bitXor, xor-block, xor-zero-r}
-use lib.ListN.{length, drop, replicate, length-append, length-replicate}
+use lib.ListN.{length, drop, length-append}
 use Rattle.edc.specs.Bits.{numberLowFirst}
 use Rattle.bits.specs.Binary.Parts.{binary-append, binary-drop}
 use Rattle.division.specs.Polynomial.{Coefficients, plus, scaled}
-use Rattle.division.specs.Polynomial.Lengths.{coefs-zeros, coefs-scaled, length-scaled}
+use Rattle.division.specs.Polynomial.Lengths.{coefs-scaled, length-scaled}
 use Rattle.division.specs.Division.{brought, divided}
 use Rattle.division.specs.Division as whole
 use Rattle.division.specs.Division.Lengths as by
 use Rattle.edc.specs.Polynomial.{divisor}
 use Rattle.edc.specs.Polynomial.Lengths.{coefs-divisor, coefs-remainder, length-divisor, length-remainder}
 use Rattle.edc.specs.Edc.{remainder}
-use Rattle.edc.specs.Bits.Numbers.{number-zeros, number-append, number-lt, number-plus, number-scaled}
+use Rattle.edc.specs.Bits.Numbers.{number-append, number-lt, number-plus, number-scaled}
 use Rattle.edc.specs.Register.{feedback, step, steps}
-use Rattle.edc.specs.Register.Steps.{steps-zeros, steps-join, steps-split}
+use Rattle.edc.specs.Register.Steps.{steps-split}
 
 -- ---- one line of the division is one step of the register
 
@@ -57,7 +56,7 @@ module _ (t c : ℕ) (rest : List ℕ) (ht : t < 2) (hc : c < 2) (h : Coefficien
       (number-append rest (c ∷ []) ∙ ap₂ (λ (x n : ℕ). numberLowFirst rest + x * 2 ^ n) (number-one c) l)
       (number-scaled t low ∙ ap (λ (x : ℕ). t * x) number-low)
 
-  -- n is the numberLowFirst of the coefficients after c
+  -- n is the number of the coefficients after c
   step-brought : (n : ℕ) → step (numberLowFirst (t ∷ rest) + (c + n * 2) * 2 ^ 32) ≡ numberLowFirst (brought divisor (t ∷ rest) c) + n * 2 ^ 32
   unfolding step numberLowFirst
   step-brought n =
@@ -85,17 +84,6 @@ divided-steps [] (c ∷ cs) h k l = absurd (omega arith)
 divided-steps (t ∷ r) (c ∷ cs) h k l =
     divided-steps (brought divisor (t ∷ r) c) cs (by.coefs-brought divisor (t ∷ r) c) (k .1) (by.length-brought divisor 32 length-divisor (t ∷ r) c l)
     ∙ ap (steps (length cs)) (sym (step-brought t c r (h .0) (k .0) (h .1) (omega arith) (numberLowFirst cs)))
-
--- 32 + n coefficients: the first 32 come down as they are, and n steps are left
-pub remainder-steps : (n : ℕ) (cs : List ℕ) → Coefficients cs → length cs ≡ 32 + n → numberLowFirst (remainder cs) ≡ steps n (numberLowFirst cs)
-unfolding remainder whole.remainder
-remainder-steps n cs h l =
-    ap (λ (n : ℕ). numberLowFirst (divided divisor (replicate (n - 1) 0) cs)) length-divisor
-    ∙ divided-steps (replicate 32 0) cs (coefs-zeros 32) h (length-replicate {A = ℕ} 32 0)
-    ∙ ap₂ (λ (k z : ℕ). steps k (z + numberLowFirst cs * 2 ^ 32)) l (number-zeros 32)
-    ∙ ap (steps (32 + n)) (zero-add (numberLowFirst cs * 2 ^ 32))
-    ∙ steps-join 32 n (numberLowFirst cs * 2 ^ 32)
-    ∙ ap (steps n) (steps-zeros 32 (numberLowFirst cs))
 
 -- coefficients ds more: so many steps more
 pub remainder-append : (cs ds : List ℕ) → Coefficients ds

@@ -1,4 +1,4 @@
--- The test for a remainder 0, on the list and on the numberLowFirst.
+-- The test for a remainder 0, on the list and on the number.
 -- Assumes nothing.
 use mathlib.Core.Path.{_≡_, refl, sym, ap, _∙_}
 use mathlib.Core.Bool.{Bool, true, _&&_}
@@ -7,7 +7,6 @@ use Prim.Native.Nat.{ℕ, zero, suc, _+_, _*_}
 use native.Mathlib.Omega.{arith}
 use borrow.Author.Tests.{ne-eqb}
 use lib.Dec.{eqb, eqb·suc-zero}
-use lib.ListN.{replicate}
 use Rattle.division.specs.Polynomial.Zeros.{zero-is, is-zero}
 use Rattle.edc.specs.Bits.{bits, numberLowFirst}
 use Rattle.edc.specs.Edc.{remainder, isZero, Divisible}
@@ -15,12 +14,12 @@ use Rattle.edc.specs.Polynomial.Lengths.{length-remainder}
 
 -- what the test of a remainder says
 pub test-divisible : (bytes : List ℕ) → isZero (remainder (bits bytes)) ≡ true → Divisible bytes
-test-divisible bytes e = zero-is (remainder (bits bytes)) e ∙ ap (λ (n : ℕ). replicate n 0) (length-remainder (bits bytes))
+test-divisible bytes = zero-is 32 (remainder (bits bytes)) (length-remainder (bits bytes))
 
 pub divisible-test : (bytes : List ℕ) → Divisible bytes → isZero (remainder (bits bytes)) ≡ true
-divisible-test bytes e = ap isZero e ∙ is-zero 32
+divisible-test bytes = is-zero 32 (remainder (bits bytes))
 
--- the same test on the numberLowFirst
+-- the same test on the number
 pub zero-number : (cs : List ℕ) → isZero cs ≡ eqb (numberLowFirst cs) 0
 unfolding numberLowFirst
 zero-number [] = refl

@@ -51,7 +51,7 @@ module _ (x : ℕ) (h : x < 256) where
       ∙ past-block 24 x (block 32)
       ∙ tabulated-at (steps 32) 256 x h
 
--- the lowest byte of a numberLowFirst takes all the steps, and the rest of it eight less
+-- the lowest byte of a number takes all the steps, and the rest of it eight less
 split-byte : (k n : ℕ) → steps (8 + k) n ≡ bitXor (steps (8 + k) (n % 256)) (steps k (n / 256))
 split-byte k n =
     let e : n ≡ n / 256 * 2 ^ 8 + n % 256 = omega arith in

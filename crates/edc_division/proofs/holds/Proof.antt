@@ -1,4 +1,4 @@
--- `edc_division::holds` meets its contract: the test on the numberLowFirst is the test on the list (`zero-number`).
+-- `edc_division::holds` meets its contract: the test on the number is the test on the list (`zero-number`).
 -- Assumes nothing.
 use mathlib.Core.Path.{_∙_, sym, ap}
 use Prim.Native.Nat.{ℕ}

@@ -1,4 +1,4 @@
--- `edc_division::parity` meets its contract: the register after 32 steps more is the EDC's numberLowFirst, and its digits are the bytes (`edc-digits`).
+-- `edc_division::parity` meets its contract: the register after 32 steps more is the EDC's number, and its digits are the bytes (`edc-digits`).
 -- Assumes nothing.
 use Rattle.edc_division.proofs.Digits.{edc-digits}
 use borrow.Author.Needs.{needs}

@@ -6,7 +6,7 @@ use Prim.Native.Nat.{ℕ, _≤_, _-_}
 use native.Mathlib.Omega.{arith}
 use borrow.Author.Needs.{needs}
 use lib.ListN.{length}
-use Rattle.tally.specs.Counting.{largest}
+use Rattle.fate_counts.specs.Counting.{largest}
 use Rattle.empty_sectors.specs.Run.{Reached}
 use Rattle.empty_sectors.proofs.Turning.{first, one-more, over-any}
 use Rattle.empty_sectors.proofs.turns.Statement.{statement}

@@ -7,7 +7,7 @@ use Prim.Native.Nat.{ℕ}
 use lib.ListN.{length, take, drop, take-append-drop}
 use Rattle.empty_sectors.specs.declared.Stand.{Stand}
 use Rattle.empty_sectors.specs.declared.Stand.the-variants.{Going, Stopped, WriteFailed}
-use Rattle.emptiness.specs.Listed.{foundIn, lineOf, linesOf}
+use Rattle.empty_lines.specs.Listed.{foundIn, lineOf, linesOf}
 use Rattle.empty_sectors.specs.Run.{Turn, tells, stops, unwritten, Run, begins, goes}
 
 -- whole Sectors, in the order in which they came

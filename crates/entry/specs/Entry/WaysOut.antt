@@ -76,8 +76,3 @@ pub outcome-one : (m : Outcome) (a b : Answer) (x y : List ℕ) → outcome (say
 outcome-one m a b x y p q =
     let e : outcome (sayOf a) x ≡ outcome (sayOf b) y = p ∙ sym q in
     (sayOf-one a b (ap (λ (o : Outcome). o .say) e), ap (λ (o : Outcome). o .out) e)
-
--- for callers: where both lengths are right the entry is done, and the buffer holds what it makes
-pub right-done : (make : List ℕ → List ℕ) (s old new : List ℕ) (a : Answer) → length s ≡ 2352 → length old ≡ 2352
-    → outcome (sayOf a) new ≡ answering make s old → (a ≡ Done) × (new ≡ make s)
-right-done make s old new a hs ho p = outcome-one (answering make s old) a Done new (make s) p (on-done make s old (make s) hs ho refl)

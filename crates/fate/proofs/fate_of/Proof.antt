@@ -17,6 +17,9 @@ byte-at-requires-2 c κs = search needs
 byte-at-requires-3 : tie.Need-byte-at-requires-3
 byte-at-requires-3 c κs = search needs
 
+new-requires : tie.Need-new-requires
+new-requires c κs = search needs
+
 returns : tie.Need-returns
 returns c = search (on-clean)
 
@@ -49,6 +52,7 @@ fate-of-spec =
     byte-at-requires
     byte-at-requires-2
     byte-at-requires-3
+    new-requires
     returns
     enum-told
     enum-told-2

@@ -5,7 +5,7 @@ use mathlib.Core.List.{List}
 use Prim.Native.Nat.{ℕ}
 use Rattle.sector.specs.Layout.{zeros}
 use Rattle.repair.specs.Repair.One.{repair-one}
-use Rattle.tally.specs.declared.Fate.{Fate}
+use Rattle.fate_counts.specs.declared.Fate.{Fate}
 use Rattle.fate.specs.Fated.{fateFrom, Fated}
 
 -- there is only one

@@ -14,10 +14,10 @@ pub timesAlpha-xor : (a b : ℕ) → timesAlpha (bitXor a b) ≡ bitXor (timesAl
 unfolding timesAlpha
 timesAlpha-xor a b =
     ap₂ bitXor (xor-double a b)
-    (ap (λ (x : ℕ). x % 2 * 285) (xor-shr a b 7)
-    ∙ ap (λ (x : ℕ). x * 285) (xor-odd (a / 128) (b / 128))
-    ∙ differ-mul (a / 128 % 2) (b / 128 % 2) 285 (bit-lt (a / 128)) (bit-lt (b / 128)))
-    ∙ xor-swap (a * 2) (b * 2) (a / 128 % 2 * 285) (b / 128 % 2 * 285)
+    (ap (λ (x : ℕ). x % 2 * 0x11D) (xor-shr a b 7)
+    ∙ ap (λ (x : ℕ). x * 0x11D) (xor-odd (a / 128) (b / 128))
+    ∙ differ-mul (a / 128 % 2) (b / 128 % 2) 0x11D (bit-lt (a / 128)) (bit-lt (b / 128)))
+    ∙ xor-swap (a * 2) (b * 2) (a / 128 % 2 * 0x11D) (b / 128 % 2 * 0x11D)
 
 pub timesAlpha-zero : timesAlpha 0 ≡ 0
 unfolding timesAlpha

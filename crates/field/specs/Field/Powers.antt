@@ -26,7 +26,7 @@ timesAlpha-lt x h = ltb→lt (timesAlpha x) 256 (below alphaByte 256 tt x h)
 
 -- α divided out again
 overAlpha : ℕ → ℕ
-overAlpha y = bitXor y (y % 2 * 285) / 2
+overAlpha y = bitXor y (y % 2 * 0x11D) / 2
 
 alphaBack : ℕ → Bool
 alphaBack x = eqb (overAlpha (timesAlpha x)) x

@@ -10,7 +10,7 @@ use lib.Bits.{bitXor, xor-lt, xor-self}
 use Rattle.xor.specs.Xor.Group.{xor-equal}
 use Rattle.field.specs.Field.{timesAlpha, power, mul}
 use Rattle.field.specs.Field.Linear.{mul-xor-r, mul-alpha, mul-zero-l, mul-zero-r}
-use Rattle.field.specs.Field.Powers.{power-lt, power-suc, power-nonzero, mul-power, power-255, power-mod, power-inj, byte-cases, byte-ind}
+use Rattle.field.specs.Field.Powers.{power-lt, power-suc, power-nonzero, mul-power, power-255, power-mod, byte-cases, byte-ind}
 
 -- ---- commutative, associative
 
@@ -75,10 +75,6 @@ mul-cancel-l a b c ha hb hc n e =
     xor-equal b c
     (mul-domain d a hd ha n
     (mul-comm d a hd ha ∙ mul-xor-r a b c ∙ ap (λ (x : ℕ). bitXor x (mul a c)) e ∙ xor-self (mul a c)))
-
--- a byte but 0 times two powers below 255: equal only where the powers are
-pub mul-cancel : (x i j : ℕ) → x < 256 → (x ≡ 0 → ⊥) → i < 255 → j < 255 → mul x (power i) ≡ mul x (power j) → i ≡ j
-mul-cancel x i j h n hi hj e = power-inj i j hi hj (mul-cancel-l x (power i) (power j) h (power-lt i) (power-lt j) n e)
 
 -- ---- inverses
 

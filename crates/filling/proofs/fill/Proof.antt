@@ -12,12 +12,12 @@ returns c = refuses-lengths _ _ (c .if1 .taken)
 returns-2 : tie.Need-returns-2
 returns-2 c = refuses-long _ _ (c .before .if1 .left) (omega (arith, c .if2 .taken))
 
-marked-requires : tie.Need-marked-requires
-marked-requires c κs = search needs
+count-marked-requires : tie.Need-count-marked-requires
+count-marked-requires c κs = search needs
 
 returns-3 : tie.Need-returns-3
 returns-3 c =
-    refuses-many _ _ (c .before .before .before .if1 .left) (omega (arith, c .before .before .if2 .left)) (omega (arith, c .if3 .taken, c .before .marked .ensures))
+    refuses-many _ _ (c .before .before .before .if1 .left) (omega (arith, c .before .before .if2 .left)) (omega (arith, c .if3 .taken, c .before .count-marked .ensures))
 
 fill-word-requires : tie.Need-fill-word-requires
 fill-word-requires c κs = search needs
@@ -34,7 +34,7 @@ returns-4 c =
     (λ k. long .before .before .slice-known .given k .fits)
     (long .before .if1 .left)
     (omega (arith, long .if2 .left))
-    (omega (arith, few .if3 .left, few .before .marked .ensures))
+    (omega (arith, few .if3 .left, few .before .count-marked .ensures))
     _ _
     (c .before .before .fill-word .ensures .0)
     (c .before .before .fill-word .ensures .1)
@@ -42,4 +42,4 @@ returns-4 c =
 pub fill-spec : {M : Type 1} → statement M
 fill-spec =
     tie.close
-    (tie.spec returns returns-2 marked-requires returns-3 fill-word-requires same-length returns-4)
+    (tie.spec returns returns-2 count-marked-requires returns-3 fill-word-requires same-length returns-4)

@@ -9,11 +9,11 @@ use lib.ListN.{length}
 use borrow.Author.Tests.{eq-eqb, ne-eqb, le-leb, lt-leb}
 use Rattle.outcome.specs.Bytes.{Bytes}
 use Rattle.codeword.specs.Code.{weight}
-use Rattle.codeword.specs.Nearest.{isCodeword}
-use Rattle.erasures.specs.Agreeing.{agreeing, handedOn}
+use Rattle.codeword.specs.Nearest.{isCodeword, foundOr, isFound}
+use Rattle.erasures.specs.Agreeing.{agreeing}
 use Rattle.erasures.specs.Errors.{filling}
 use Rattle.erasures.specs.Errors.Filling.{agreeing-test}
-use Rattle.filling.specs.Fill.{within, filled, isFilled, Fills}
+use Rattle.filling.specs.Fill.{within, filled, Fills}
 
 -- two outcomes that the promise allows are one
 pub fills-one : {m w a b : List ℕ} {r s : Bool} → Fills m w a r → Fills m w b s → (a ≡ b) × (r ≡ s)
@@ -27,7 +27,7 @@ module _ (m w : List ℕ) where
   -- ---- the ways that leave the word as it came
 
   refuses : filled m w ≡ none → Fills m w w false
-  refuses e = record { answer = sym (ap isFilled e); leaves = sym (ap (handedOn w) e) }
+  refuses e = record { answer = sym (ap isFound e); leaves = sym (ap (foundOr w) e) }
 
   pub refuses-lengths : (length m ≡ length w → ⊥) → Fills m w w false
   unfolding filled within
@@ -47,17 +47,17 @@ module _ (m w : List ℕ) where
       → r ≡ isCodeword 4 (filling m w) → out ≡ cond r (filling m w) w → Fills m w out r
   fills-test hb e k l out r t o =
       record {
-        answer = sym (ap isFilled (is r t) ∙ told r);
-        leaves = o ∙ sym (ap (handedOn w) (is r t) ∙ leaves r);
+        answer = sym (ap isFound (is r t) ∙ told r);
+        leaves = o ∙ sym (ap (foundOr w) (is r t) ∙ leaves r);
       }
     where
       is : (r : Bool) → r ≡ isCodeword 4 (filling m w) → filled m w ≡ cond r (some (filling m w)) none
       is r t = filled-within e k l ∙ agreeing-test m w hb e k l r t
 
-      told : (r : Bool) → isFilled (cond r (some (filling m w)) none) ≡ r
+      told : (r : Bool) → isFound (cond r (some (filling m w)) none) ≡ r
       told true = refl
       told false = refl
 
-      leaves : (r : Bool) → handedOn w (cond r (some (filling m w)) none) ≡ cond r (filling m w) w
+      leaves : (r : Bool) → foundOr w (cond r (some (filling m w)) none) ≡ cond r (filling m w) w
       leaves true = refl
       leaves false = refl

@@ -5,11 +5,10 @@ use mathlib.Core.Bool.{true}
 use mathlib.Core.List.{List, _++_}
 use Prim.Native.Nat.{ℕ, _≤_}
 use native.Mathlib.Omega.{arith}
-use lib.ListN.{length, drop, replicate}
+use lib.ListN.{length}
 use Rattle.outcome.specs.Bytes.{Bytes}
 use Rattle.bits.specs.Bits.{unpack}
 use Rattle.bits.specs.Bits.Packed.{length-unpack, unpack-append, packed, unpack-pack, length-pack}
-use Rattle.bits.specs.Binary.Parts.{binary-drop}
 use Rattle.division.specs.Polynomial.{Coefficients, isZero}
 use Rattle.division.specs.Polynomial.Bytes.{coefs-unpack, bytes-pack}
 use Rattle.division.specs.Polynomial.Lengths.{coefs-powers}
@@ -40,10 +39,10 @@ coefs-remainder bytes = by.coefs-remainder divisor (unpack bytes)
 
 -- what the test of a remainder says
 pub test-divisible : (bytes : List ℕ) → isZero (remainder bytes) ≡ true → Divisible bytes
-test-divisible bytes e = zero-is (remainder bytes) e ∙ ap (λ (n : ℕ). replicate n 0) (length-remainder bytes)
+test-divisible bytes = zero-is 32 (remainder bytes) (length-remainder bytes)
 
 pub divisible-test : (bytes : List ℕ) → Divisible bytes → isZero (remainder bytes) ≡ true
-divisible-test bytes e = ap isZero e ∙ is-zero 32
+divisible-test bytes = is-zero 32 (remainder bytes)
 
 -- ---- the four bytes
 
@@ -78,21 +77,11 @@ edc-one bytes t l h z =
 
 -- ---- four or more bytes are divisible exactly where their polynomial is a multiple of G(x)
 
-low : List ℕ
-low = drop 1 divisor
-
-length-low : length low ≡ 32
-unfolding low divisor
-length-low = refl
-
-coefs-low : Coefficients low
-unfolding low
-coefs-low = binary-drop 1 divisor coefs-divisor
-
 pub divisible-multiple : (bytes : List ℕ) → 4 ≤ length bytes → Divisible bytes → Multiple divisor (unpack bytes)
-unfolding remainder low divisor
-divisible-multiple bytes l z = zero-product 32 low (omega arith) length-low coefs-low (unpack bytes) (coefs-unpack bytes) (omega (arith, length-unpack bytes)) z
+unfolding remainder divisor
+divisible-multiple bytes l =
+    zero-product 32 divisor (omega arith) length-divisor coefs-divisor refl (unpack bytes) (coefs-unpack bytes) (omega (arith, length-unpack bytes))
 
 pub multiple-divisible : (bytes : List ℕ) → Multiple divisor (unpack bytes) → Divisible bytes
-unfolding remainder low divisor
-multiple-divisible bytes m = product-zero 32 low (omega arith) length-low coefs-low (unpack bytes) m
+unfolding remainder divisor
+multiple-divisible bytes = product-zero 32 divisor (omega arith) length-divisor coefs-divisor refl (unpack bytes)

@@ -10,10 +10,11 @@ use Rattle.outcome.specs.Say.{Say, done, demand}
 use Rattle.codeword.specs.Nearest.{isCodeword}
 use Rattle.division.specs.Polynomial.{isZero}
 use Rattle.frame_edc.specs.FrameEdc.{remainder}
-use Rattle.data_frame.specs.DataFrame.{unreserved}
+use Rattle.data_frame.specs.DataFrame.{reservedAreZero}
 use Rattle.frame_reader.specs.Reading.{faults}
 use Rattle.told.specs.Told.{numberOf}
-use Rattle.frame_faults.specs.AllFaults.{allFaults, refusalOf}
+use Rattle.frame_faults.specs.AllFaults.{allFaults}
+use Rattle.frame_faults.specs.Inner.Refusals.{refusalOf}
 
 -- three demands
 abbrev three : Bool → Bool → Bool → Say → Say
@@ -45,16 +46,16 @@ three-number false q u rest e = refl
 
 module _ (f : List ℕ) where
   pub clean-frame : numberOf (faults f (done [])) ≡ 0 → (rest : Say) → faults f rest ≡ rest
-  clean-frame = three-none (isCodeword 2 (take 6 f)) (isZero (remainder f)) (unreserved (getD f 0 0))
+  clean-frame = three-none (isCodeword 2 (take 6 f)) (isZero (remainder f)) (reservedAreZero (getD f 0 0))
 
   pub faulty-frame : (numberOf (faults f (done [])) ≡ 0 → ⊥) → (rest : Say) → faults f rest ≡ refusalOf (numberOf (faults f (done [])))
-  faulty-frame = three-some (isCodeword 2 (take 6 f)) (isZero (remainder f)) (unreserved (getD f 0 0))
+  faulty-frame = three-some (isCodeword 2 (take 6 f)) (isZero (remainder f)) (reservedAreZero (getD f 0 0))
 
   pub number-values : (v : List ℕ) → numberOf (faults f (done v)) ≡ numberOf (faults f (done []))
-  number-values = three-values (isCodeword 2 (take 6 f)) (isZero (remainder f)) (unreserved (getD f 0 0))
+  number-values = three-values (isCodeword 2 (take 6 f)) (isZero (remainder f)) (reservedAreZero (getD f 0 0))
 
   pub faulty-number : (rest : Say) → (numberOf (faults f (done [])) ≡ 0 → ⊥) → numberOf (faults f rest) ≡ numberOf (faults f (done []))
-  faulty-number = three-number (isCodeword 2 (take 6 f)) (isZero (remainder f)) (unreserved (getD f 0 0))
+  faulty-number = three-number (isCodeword 2 (take 6 f)) (isZero (remainder f)) (reservedAreZero (getD f 0 0))
 
 -- ---- frames in a row
 

@@ -41,11 +41,11 @@ same-length-3 c = search needs
 returns-4 : tie.Need-returns-4
 returns-4 c = search ways
 
-shared-slice-read-is-unreserved : tie.Need-shared-slice-read-is-unreserved
-shared-slice-read-is-unreserved c = search needs
+shared-slice-read-reserved-are-zero : tie.Need-shared-slice-read-reserved-are-zero
+shared-slice-read-reserved-are-zero c = search needs
 
-is-unreserved-requires : tie.Need-is-unreserved-requires
-is-unreserved-requires c κs = search needs
+reserved-are-zero-requires : tie.Need-reserved-are-zero-requires
+reserved-are-zero-requires c κs = search needs
 
 wipe-requires-4 : tie.Need-wipe-requires-4
 wipe-requires-4 c κs = search needs
@@ -81,7 +81,7 @@ returns-6 c =
     let second = third .before .before .before .before in
     let first = second .before .before in
     on-done _ _ _ (first .before .before .if1 .left) (first .before .if2 .left) _ (first .is-identified .ensures) (second .before .if3 .left) _
-    (second .holds .ensures) (third .before .before .before .if4 .left) _ (third .before .is-unreserved .ensures) (third .if5 .left) _ (copied .copy .ensures)
+    (second .holds .ensures) (third .before .before .before .if4 .left) _ (third .before .reserved-are-zero .ensures) (third .if5 .left) _ (copied .copy .ensures)
     (c .fields-of .result) (c .fields-of .ensures)
 
 pub read-frame-spec : {M : Type 1} → statement M
@@ -100,8 +100,8 @@ read-frame-spec =
     wipe-requires-3
     same-length-3
     returns-4
-    shared-slice-read-is-unreserved
-    is-unreserved-requires
+    shared-slice-read-reserved-are-zero
+    reserved-are-zero-requires
     wipe-requires-4
     same-length-4
     returns-5

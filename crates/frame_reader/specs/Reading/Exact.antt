@@ -18,8 +18,8 @@ use Rattle.division.specs.Polynomial.{isZero}
 use Rattle.frame_edc.specs.FrameEdc.{remainder}
 use Rattle.frame_edc.specs.FrameEdc.Right.{test-divisible, divisible-test}
 use Rattle.data_frame.specs.declared.Fields.{Fields}
-use Rattle.data_frame.specs.DataFrame.{DataFrame, information, mainData, unreserved, fieldsOf, values}
-use Rattle.data_frame.specs.DataFrame.Bits.{information-unreserved, fields-back, id-back, copyright-back}
+use Rattle.data_frame.specs.DataFrame.{DataFrame, information, mainData, reservedAreZero, fieldsOf, values}
+use Rattle.data_frame.specs.DataFrame.Bits.{information-reserved-zero, fields-back, id-back, copyright-back}
 use Rattle.frame_reader.specs.Reading.{says, reading}
 use Rattle.frame_reader.specs.Reading.WaysOut.{on-done}
 
@@ -35,7 +35,7 @@ read-sound frame old b e =
     let two = demanded (eqb (length old) 2048) 2 _ (one .1) in
     let ied = demanded (isCodeword 2 (take 6 frame)) 28 _ (two .1) in
     let edc = demanded (isZero (remainder frame)) 29 _ (ied .1) in
-    let set = demanded (unreserved (getD frame 0 0)) 30 _ (edc .1) in
+    let set = demanded (reservedAreZero (getD frame 0 0)) 30 _ (edc .1) in
     let long : length frame ≡ 2064 = eqb-true (length frame) 2064 (one .0) in
     record {
       long = long;
@@ -54,5 +54,5 @@ read-complete {fields} {main} {frame} d old l =
     let first : getD frame 0 0 ≡ information fields = sym (getD-take 4 frame 0 0 (omega arith)) ∙ ap (λ (t : List ℕ). getD t 0 0) (d .id) in
     sym
     (on-done frame old (mainData frame) (d .long) l (test-of-code 2 (take 6 frame) (d .ied)) (divisible-test frame (d .edc))
-    (ap unreserved first ∙ information-unreserved fields) refl)
+    (ap reservedAreZero first ∙ information-reserved-zero fields) refl)
     ∙ ap₂ (λ (f : Fields) (m : List ℕ). outcome (done (values f)) m) (fields-back fields frame (d .id) (d .cpr-mai)) (d .has-main)

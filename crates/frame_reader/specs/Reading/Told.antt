@@ -6,7 +6,8 @@ use mathlib.Core.List.{List}
 use Prim.Native.Nat.{ℕ}
 use lib.Dec.{eqb}
 use Rattle.outcome.specs.Say.{Say, done, refused, Outcome, outcome}
-use Rattle.data_frame.specs.DataFrame.Values.{fieldsFrom, values-back}
+use Rattle.data_frame.specs.DataFrame.{fieldsFrom}
+use Rattle.data_frame.specs.DataFrame.Values.{values-back}
 use Rattle.frame_reader.specs.declared.FrameRead.{FrameRead}
 use Rattle.frame_reader.specs.declared.FrameRead.the-variants.{Done, WrongIncoming, WrongOutgoing, WrongIdentification, WrongEdc, ReservedBit}
 use Rattle.frame_reader.specs.Reading.{reading, sayOf}

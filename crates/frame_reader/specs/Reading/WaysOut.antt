@@ -10,7 +10,7 @@ use Rattle.outcome.specs.Say.{done, refused, cleared, outcome}
 use Rattle.codeword.specs.Nearest.{isCodeword}
 use Rattle.division.specs.Polynomial.{isZero}
 use Rattle.frame_edc.specs.FrameEdc.{remainder}
-use Rattle.data_frame.specs.DataFrame.{mainData, unreserved, fieldsOf, values}
+use Rattle.data_frame.specs.DataFrame.{mainData, reservedAreZero, fieldsOf, values}
 use Rattle.frame_reader.specs.Reading.{reading}
 
 module _ (frame old new : List ℕ) where
@@ -33,10 +33,10 @@ module _ (frame old new : List ℕ) where
       on-edc q e = simp (eq-eqb (length frame) 2064 l, eq-eqb (length old) 2048 m, p, q, e)
 
       module _ (q : isZero (remainder frame) ≡ true) where
-        pub on-reserved : unreserved (getD frame 0 0) ≡ false → new ≡ cleared 2048 old → outcome (refused 30 []) new ≡ reading frame old
+        pub on-reserved : reservedAreZero (getD frame 0 0) ≡ false → new ≡ cleared 2048 old → outcome (refused 30 []) new ≡ reading frame old
         unfolding reading
         on-reserved u e = simp (eq-eqb (length frame) 2064 l, eq-eqb (length old) 2048 m, p, q, u, e)
 
-        pub on-done : unreserved (getD frame 0 0) ≡ true → new ≡ mainData frame → outcome (done (values (fieldsOf frame))) new ≡ reading frame old
+        pub on-done : reservedAreZero (getD frame 0 0) ≡ true → new ≡ mainData frame → outcome (done (values (fieldsOf frame))) new ≡ reading frame old
         unfolding reading
         on-done u e = simp (eq-eqb (length frame) 2064 l, eq-eqb (length old) 2048 m, p, q, u, e)

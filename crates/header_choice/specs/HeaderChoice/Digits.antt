@@ -11,7 +11,7 @@ use Rattle.bits.specs.Bits.{bitsOf, number}
 use Rattle.bits.specs.Bits.Numbers.{number-lt, bits-number}
 use Rattle.merging.specs.Automaton.{passes, start22}
 use Rattle.merging.specs.Chosen.ThreeBits.{header-three, header-binary}
-use Rattle.merging.specs.Rule.{header}
+use Rattle.merging.specs.Rule.{syncHeaderBits}
 use Rattle.traces.specs.declared.Trace.{Trace}
 use Rattle.traces.specs.Traces.{tallyDsv, fits}
 use Rattle.header_choice.specs.declared.Tail.{Tail}
@@ -34,7 +34,7 @@ digits-small {n} {bs} d = subst (λ (k : ℕ). number 0 bs < 2 ^ k) (d .long) (n
 pub tail-digits : (t : Trace) → Digits 3 (beforeNextHeader t)
 tail-digits t =
     let ok = passes (t .run) start22 in
-    let dsv = tallyDsv (t .tally) header in
+    let dsv = tallyDsv (t .tally) syncHeaderBits in
     record { binary = header-binary ok dsv; long = header-three ok dsv }
 
 -- which are those of the number that is chosen

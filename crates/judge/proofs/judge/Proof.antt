@@ -20,14 +20,17 @@ shared-slice-read-mode c = search needs
 returns-3 : tie.Need-returns-3
 returns-3 c = search ways
 
-shared-slice-read-t8 : tie.Need-shared-slice-read-t8
-shared-slice-read-t8 c = search needs
+shared-slice-read-new : tie.Need-shared-slice-read-new
+shared-slice-read-new c = search needs
 
-shared-slice-read-t11 : tie.Need-shared-slice-read-t11
-shared-slice-read-t11 c = search needs
+shared-slice-read-new-2 : tie.Need-shared-slice-read-new-2
+shared-slice-read-new-2 c = search needs
 
-shared-slice-read-t13 : tie.Need-shared-slice-read-t13
-shared-slice-read-t13 c = search needs
+shared-slice-read-new-3 : tie.Need-shared-slice-read-new-3
+shared-slice-read-new-3 c = search needs
+
+new-requires : tie.Need-new-requires
+new-requires c κs = search needs
 
 in-range-requires : tie.Need-in-range-requires
 in-range-requires c κs = search needs
@@ -50,9 +53,10 @@ judge-spec =
     returns-2
     shared-slice-read-mode
     returns-3
-    shared-slice-read-t8
-    shared-slice-read-t11
-    shared-slice-read-t13
+    shared-slice-read-new
+    shared-slice-read-new-2
+    shared-slice-read-new-3
+    new-requires
     in-range-requires
     returns-4
     judge-by-mode-requires

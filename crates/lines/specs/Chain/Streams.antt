@@ -9,7 +9,19 @@ use lib.Seq.{take-at, drop-at, take-all, drop-drop}
 use Rattle.lines.specs.Delay.{rowsOut, total}
 use Rattle.lines.specs.Stream.{stateAt, outAt}
 use Rattle.lines.specs.Stream.Rows.{length-state}
-use Rattle.lines.specs.Chain.{lines₁, lines₂, lines₃, word₂, word₃, chainOut, chainNext, chainAt, chained, stream₁, stream₂}
+use Rattle.lines.specs.Chain.{lines₁, lines₂, lines₃, word₂, word₃, chainOut, chainNext, chainAt}
+
+-- the chain over time: what leaves the first stage at step n, and the second
+module _ (d₁ d₂ d₃ : List ℕ) (g₁ g₂ g₃ : List ℕ → List ℕ) where
+  abbrev stream₁ : (ℕ → List ℕ) → ℕ → List ℕ
+  stream₁ f n = outAt d₁ (λ m. g₁ (f m)) n
+
+  abbrev stream₂ : (ℕ → List ℕ) → ℕ → List ℕ
+  stream₂ f n = outAt d₂ (λ m. g₂ (stream₁ f m)) n
+
+  -- and the third: what the chain gives
+  unfoldable pub chained : (ℕ → List ℕ) → ℕ → List ℕ
+  chained f n = outAt d₃ (λ m. g₃ (stream₂ f m)) n
 
 module _ (d₁ d₂ d₃ : List ℕ) (g₁ g₂ g₃ : List ℕ → List ℕ) (a b c : List ℕ) (ea : length a ≡ total d₁) (eb : length b ≡ total d₂) (ec : length c ≡ total d₃) where
   part₁ : lines₁ d₁ d₂ d₃ g₁ g₂ g₃ (a ++ (b ++ c)) ≡ a

@@ -9,7 +9,30 @@ use borrow.Author.Tests.{eqb-true, eq-eqb}
 use lib.Dec.{eqb}
 use lib.ListN.{length, getD}
 use Rattle.codeword.specs.Code.{changes}
-use Rattle.listing.specs.Listed.{Change, listed, Rising, none, next, Right, Each, all-none, all-next, Has, here, later}
+use Rattle.listing.specs.Listed.{Change, listed}
+
+-- the positions rise, from i on
+pub data Rising : ℕ → List Change → Type 0 where
+  none : {i : ℕ} → Rising i []
+  next : {i : ℕ} {c : Change} {l : List Change} → i ≤ c .at → Rising (suc (c .at)) l → Rising i (c ∷ l)
+
+-- c is a change from a to b, whose first elements have position i
+pub record Right (i : ℕ) (a b : List ℕ) (c : Change) : Type 0 where
+  pub offset : ℕ
+  pub place : c .at ≡ i + offset
+  pub inside : offset < length a
+  pub was-there : getD a offset 0 ≡ c .was
+  pub is-there : getD b offset 0 ≡ c .is
+  pub unlike : c .was ≡ c .is → ⊥
+
+pub data Each (P : Change → Type 0) : List Change → Type 0 where
+  all-none : Each P []
+  all-next : {c : Change} {l : List Change} → P c → Each P l → Each P (c ∷ l)
+
+-- one of them is at position p
+pub data Has (p : ℕ) : List Change → Type 0 where
+  here : {c : Change} {l : List Change} → c .at ≡ p → Has p (c ∷ l)
+  later : {c : Change} {l : List Change} → Has p l → Has p (c ∷ l)
 
 -- as many as there are changed bytes
 pub length-listed : (i : ℕ) (a b : List ℕ) → length (listed i a b) ≡ changes a b

@@ -3,33 +3,29 @@
 use mathlib.Core.Path.{_≡_, refl, sym, ap, ap₂, _∙_}
 use mathlib.Core.Bool.{Bool, true, false, cond}
 use mathlib.Core.List.{List, [], _∷_, _++_}
-use Prim.Native.Nat.{ℕ, suc, _+_, _-_, _*_, _/_, _%_}
+use Prim.Native.Nat.{ℕ, zero, suc, _+_, _-_, _*_, _/_, _%_}
 use native.Mathlib.Omega.{arith}
 use borrow.Author.Tests.{eqb-true}
 use lib.Dec.{eqb}
-use lib.ListN.{length, set, replicate, length-append, length-replicate}
+use lib.ListN.{length, getD, set, drop, replicate}
 use Rattle.codeword.specs.Code.{changes}
-use Rattle.codeword.specs.Code.Changes.{changes-le}
-use Rattle.listing.specs.Listed.{Change, listed, flat, listing, readBack, made}
+use Rattle.listing.specs.Listed.{Change, listed, flat, listing}
 use Rattle.listing.specs.Listed.Exact.{length-listed}
+
+-- n changes read from bytes
+unfoldable pub readBack : ℕ → List ℕ → List Change
+readBack zero b = []
+readBack (suc n) b = record { at = 256 * getD b 0 0 + getD b 1 0; was = getD b 2 0; is = getD b 3 0 } ∷ readBack n (drop 4 b)
+
+-- the changes made in r, one after the other
+unfoldable pub made : List Change → List ℕ → List ℕ
+made [] r = r
+made (c ∷ l) r = made l (set r (c .at) (c .is))
 
 pub length-flat : (l : List Change) → length (flat l) ≡ 4 * length l
 unfolding flat
 length-flat [] = refl
 length-flat (c ∷ l) = omega (arith, length-flat l)
-
--- the list has 9,408 bytes
-pub length-listing : (r s : List ℕ) → length r ≡ 2352 → length (listing r s) ≡ 9408
-unfolding listing
-length-listing r s e =
-    omega (
-      arith,
-      length-append (flat (listed 0 r s)) (replicate (9408 - 4 * changes r s) 0),
-      length-flat (listed 0 r s),
-      length-listed 0 r s,
-      length-replicate {A = ℕ} (9408 - 4 * changes r s) 0,
-      changes-le r s,
-    )
 
 read-flat : (l : List Change) (rest : List ℕ) → readBack (length l) (flat l ++ rest) ≡ l
 unfolding flat readBack

@@ -1,16 +1,11 @@
--- So a list is laid in by a copy into a part that was lent.
+-- A list that stands between the first places of another and its last ones is laid into it, as a copy into a lent part leaves it.
 -- Assumes nothing.
 use mathlib.Core.Path.{_≡_, sym, ap, ap₂, _∙_}
-use mathlib.Core.Bool.{Bool, cond}
 use mathlib.Core.List.{List, _++_}
 use Prim.Native.Nat.{ℕ, _+_, _-_, _≤_}
 use native.Mathlib.Omega.{arith}
-use borrow.Rule.Slice.PartMut.{putMid}
-use lib.Dec.{eqb}
-use lib.ListN.{length, getD, take, drop, length-append, length-take, length-drop, List·getD-append}
+use lib.ListN.{length, getD, take, drop, length-append, length-drop, List·getD-append}
 use lib.Seq.{getD-take, getD-drop, getD-append-add, length-take-le}
-use Rattle.outcome.specs.Buffer.Lengths.{same-lengths}
-use Rattle.outcome.specs.Buffer.Part.{part-back}
 use Rattle.lists.specs.Laid.{Laid}
 
 -- q between a list's first a places and those from e on
@@ -31,11 +26,3 @@ laid a e q s g h =
           ap (λ (n : ℕ). getD (take a s ++ (q ++ drop e s)) n 0) there ∙ getD-append-add (take a s) (q ++ drop e s) (length q + (i - e)) 0
           ∙ getD-append-add q (drop e s) (i - e) 0 ∙ getD-drop e s (i - e) 0 ∙ ap (λ (n : ℕ). getD s n 0) back;
     }
-
--- so it is after `outcome::copy` of a list q into the part from a up to e
-pub laid-copy : (a e : ℕ) (q s x : List ℕ) (r : Bool) → a ≤ e → a + length q ≡ e → e ≤ length s
-    → (r ≡ eqb (length q) (length (take (e - a) (drop a s)))) × (x ≡ cond r q (take (e - a) (drop a s))) → Laid a q s (putMid a (e - a) s x)
-laid-copy a e q s x r m g h c =
-    let long : length q ≡ length (take (e - a) (drop a s)) = omega (arith, length-take (e - a) (drop a s), length-drop a s) in
-    let is : x ≡ q = same-lengths r (length q) (length (take (e - a) (drop a s))) x q (take (e - a) (drop a s)) c long in
-    rw (part-back a e s x m, is) (laid a e q s g h)

@@ -7,7 +7,7 @@ use native.Mathlib.Nat.{add-zero}
 use native.Mathlib.Omega.{arith}
 use lib.Dec.{T}
 use Rattle.words.specs.RunRule.{gaps, runs}
-use Rattle.merging.specs.Rule.{header, headers}
+use Rattle.merging.specs.Rule.{syncHeaderBits, headers}
 use Rattle.merging.specs.Automaton.{broken, headed, step, steps, live, shown, start22, StateOf}
 use Rattle.bits.specs.Binary.{Binary}
 use Rattle.lists.specs.Each.{Each}
@@ -94,29 +94,29 @@ shown-state s h =
 abbrev Headed : ℕ → Type 0
 Headed s =
     T (live (steps s start22)) → (x : List ℕ)
-    → (gaps (s % 11) (header ++ x) ≡ gaps 1 x) × (headers (shown s ++ (header ++ x)) ≡ suc (headers (shown headed ++ x)))
+    → (gaps (s % 11) (syncHeaderBits ++ x) ≡ gaps 1 x) × (headers (shown s ++ (syncHeaderBits ++ x)) ≡ suc (headers (shown headed ++ x)))
 
 headers-follow : Each Headed broken
 unfolding step headers
 headers-follow = (λ t x. absurd t, (λ t x. (refl, refl), (λ t x. (refl, refl), (λ t x. (refl, refl), (λ t x. (refl, refl), (λ t x. (refl, refl), (λ t x. (refl, refl), (λ t x. (refl, refl), (λ t x. (refl, refl), (λ t x. absurd t, (λ t x. absurd t, (λ t x. absurd t, (λ t x. (refl, refl), (λ t x. (refl, refl), (λ t x. (refl, refl), (λ t x. (refl, refl), (λ t x. (refl, refl), (λ t x. (refl, refl), (λ t x. (refl, refl), (λ t x. (refl, refl), (λ t x. absurd t, (λ t x. absurd t, tt))))))))))))))))))))))
 
 -- after a Sync Header at its place the state is always the same: one ZERO since a ONE with ten ZEROs before it
-pub state-header : (past : List ℕ) (s : ℕ) → StateOf past s → T (live (steps s start22)) → StateOf (past ++ header) headed
+pub state-header : (past : List ℕ) (s : ℕ) → StateOf past s → T (live (steps s start22)) → StateOf (past ++ syncHeaderBits) headed
 state-header past s d t =
     let on : Headed s = case Headed broken headers-follow s (d .state) in
-    let one : headers (past ++ header) ≡ headers past + 1 = d .headers-on header ∙ ap (λ (n : ℕ). headers past + n) (ap headers (ap (λ (l : List ℕ). shown s ++ l) (sym (append-nil header))) ∙ on t [] .1 ∙ ap suc (shown-none headed (omega arith))) in
+    let one : headers (past ++ syncHeaderBits) ≡ headers past + 1 = d .headers-on syncHeaderBits ∙ ap (λ (n : ℕ). headers past + n) (ap headers (ap (λ (l : List ℕ). shown s ++ l) (sym (append-nil syncHeaderBits))) ∙ on t [] .1 ∙ ap suc (shown-none headed (omega arith))) in
     record {
       state = omega arith;
-      runs-on = λ x. ap runs (append-assoc past header x) ∙ d .runs-on (header ++ x) ∙ on t x .0;
+      runs-on = λ x. ap runs (append-assoc past syncHeaderBits x) ∙ d .runs-on (syncHeaderBits ++ x) ∙ on t x .0;
       headers-on = λ x.
           let y = headers (shown headed ++ x) in
           let e : headers past + suc y ≡ headers past + 1 + y = omega arith in
-          ap headers (append-assoc past header x) ∙ d .headers-on (header ++ x) ∙ ap (λ (n : ℕ). headers past + n) (on t x .1)
+          ap headers (append-assoc past syncHeaderBits x) ∙ d .headers-on (syncHeaderBits ++ x) ∙ ap (λ (n : ℕ). headers past + n) (on t x .1)
           ∙ e ∙ ap (λ (n : ℕ). n + y) (sym one);
     }
 
 -- the first Sync Header of all
-pub state-first : StateOf header headed
+pub state-first : StateOf syncHeaderBits headed
 unfolding headers
 state-first = record { state = omega arith; runs-on = λ x. refl; headers-on = λ x. one-more (headers (shown headed ++ x)) }
   where

@@ -5,7 +5,7 @@ use mathlib.Core.Logic.{_⊎_, inl, inr}
 use mathlib.Core.List.{List, [], _++_, append-assoc, append-nil}
 use Prim.Native.Nat.{ℕ}
 use Rattle.merging.specs.Chosen.{SoFar, after, dsvAfter, beforeWord, beforeHeader, withWord, withHeader, withTail}
-use Rattle.merging.specs.Rule.{header, allowed}
+use Rattle.merging.specs.Rule.{syncHeaderBits, allowed}
 use Rattle.merging.specs.Rule.Earlier.{earlier-word, earlier-header}
 use Rattle.merging.specs.Automaton.{headed, StateOf}
 
@@ -16,16 +16,16 @@ behind old w = record { bits = old ++ w .bits; level = w .level; plus = w .plus;
 -- a Sync Header stands first, as it does wherever Merging bits are chosen
 pub record Begun (w : SoFar) : Type 0 where
   pub rest : List ℕ
-  pub begins : w .bits ≡ header ++ rest
+  pub begins : w .bits ≡ syncHeaderBits ++ rest
 
 begun-after : (w : SoFar) (bs : List ℕ) → Begun w → Begun (after w bs)
-begun-after w bs b = record { rest = b .rest ++ bs; begins = ap (λ (l : List ℕ). l ++ bs) (b .begins) ∙ append-assoc header (b .rest) bs }
+begun-after w bs b = record { rest = b .rest ++ bs; begins = ap (λ (l : List ℕ). l ++ bs) (b .begins) ∙ append-assoc syncHeaderBits (b .rest) bs }
 
 -- it does after the first Sync Header, and after whatever is written then
 pub begun-header : (w : SoFar) → (w .bits ≡ []) ⊎ Begun w → Begun (withHeader w)
 unfolding withHeader
-begun-header w (inl e) = record { rest = []; begins = ap (λ (l : List ℕ). l ++ header) e ∙ sym (append-nil header) }
-begun-header w (inr b) = begun-after w header b
+begun-header w (inl e) = record { rest = []; begins = ap (λ (l : List ℕ). l ++ syncHeaderBits) e ∙ sym (append-nil syncHeaderBits) }
+begun-header w (inr b) = begun-after w syncHeaderBits b
 
 -- a word
 pub begun-word : (w : SoFar) (next : List ℕ) → Begun w → Begun (withWord w next)
@@ -35,7 +35,7 @@ begun-word w next b = begun-after w (beforeWord (allowed (w .bits) next) (dsvAft
 -- or Merging bits
 pub begun-tail : (w : SoFar) → Begun w → Begun (withTail w)
 unfolding withTail
-begun-tail w b = begun-after w (beforeHeader (allowed (w .bits) header) (dsvAfter (w .level) (w .plus) (w .minus) header)) b
+begun-tail w b = begun-after w (beforeHeader (allowed (w .bits) syncHeaderBits) (dsvAfter (w .level) (w .plus) (w .minus) syncHeaderBits)) b
 
 module _ (old : List ℕ) where
   after-behind : (w : SoFar) (bs : List ℕ) → after (behind old w) bs ≡ behind old (after w bs)
@@ -50,9 +50,9 @@ module _ (old : List ℕ) where
   -- a Sync Header
   pub header-behind : (w : SoFar) → withHeader (behind old w) ≡ behind old (withHeader w)
   unfolding withHeader
-  header-behind w = after-behind w header
+  header-behind w = after-behind w syncHeaderBits
 
-  module _ (follows : StateOf (old ++ header) headed) (w : SoFar) (b : Begun w) where
+  module _ (follows : StateOf (old ++ syncHeaderBits) headed) (w : SoFar) (b : Begun w) where
     -- a word, after its Merging bits
     pub word-behind : (next : List ℕ) → withWord (behind old w) next ≡ behind old (withWord w next)
     unfolding withWord
@@ -66,7 +66,7 @@ module _ (old : List ℕ) where
     pub tail-behind : withTail (behind old w) ≡ behind old (withTail w)
     unfolding withTail
     tail-behind =
-        let dsv = dsvAfter (w .level) (w .plus) (w .minus) header in
-        let chosen : beforeHeader (allowed (old ++ w .bits) header) dsv ≡ beforeHeader (allowed (w .bits) header) dsv
-        = rw (b .begins) (earlier-header old follows (b .rest) header dsv) in
-        ap (after (behind old w)) chosen ∙ after-behind w (beforeHeader (allowed (w .bits) header) dsv)
+        let dsv = dsvAfter (w .level) (w .plus) (w .minus) syncHeaderBits in
+        let chosen : beforeHeader (allowed (old ++ w .bits) syncHeaderBits) dsv ≡ beforeHeader (allowed (w .bits) syncHeaderBits) dsv
+        = rw (b .begins) (earlier-header old follows (b .rest) syncHeaderBits dsv) in
+        ap (after (behind old w)) chosen ∙ after-behind w (beforeHeader (allowed (w .bits) syncHeaderBits) dsv)

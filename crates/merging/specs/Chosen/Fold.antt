@@ -12,28 +12,8 @@ use lib.Dec.{T, ltb}
 use lib.ListN.{length, getD, length-append, List·getD-append}
 use lib.Seq.{getD-append-seam}
 use Rattle.outcome.specs.Table.Entries.{of-true}
-use Rattle.merging.specs.Chosen.{Chosen, better, beforeWord, beforeHeader, forWord, forHeader, m100, m010, m001, m000}
-
--- ---- two that are chosen coincide
-
-module _ {from : List (List ℕ)} {ok : List ℕ → Bool} {dsv : List ℕ → ℕ} where
-  -- the one that is chosen does not stand before the other
-  not-before : {m n : List ℕ} (a : Chosen from ok dsv m) (b : Chosen from ok dsv n) → a .place < b .place → ⊥
-  not-before {m} {n} a b h =
-      let at-a : T (ok (getD from (a .place) [])) = subst (λ (x : List ℕ). T (ok x)) (sym (a .is)) (a .is-allowed) in
-      let at-b : T (ok (getD from (b .place) [])) = subst (λ (x : List ℕ). T (ok x)) (sym (b .is)) (b .is-allowed) in
-      let larger : dsv n < dsv m = subst (λ (x : List ℕ). dsv n < dsv x) (a .is) (b .earlier-larger (a .place) h at-a) in
-      let smaller : dsv m ≤ dsv n = subst (λ (x : List ℕ). dsv m ≤ dsv x) (b .is) (a .none-smaller (b .place) (b .stands) at-b) in
-      omega arith
-
-  -- ONLY ONE IS CHOSEN
-  pub chosen-one : {m n : List ℕ} → Chosen from ok dsv m → Chosen from ok dsv n → m ≡ n
-  chosen-one {m} {n} a b = sym (a .is) ∙ ap (λ (k : ℕ). getD from k []) same ∙ b .is
-    where
-      same : a .place ≡ b .place
-      same = omega (arith, not-before a b, not-before b a)
-
--- ---- the fold
+use Rattle.merging.specs.Chosen.{better, beforeWord, beforeHeader, m100, m010, m001, m000}
+use Rattle.merging.specs.Chosen.One.{Chosen, forWord, forHeader, chosen-one}
 
 module _ (ok : List ℕ → Bool) (dsv : List ℕ → ℕ) where
   -- the best of a and then the others

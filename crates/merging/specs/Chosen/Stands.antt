@@ -12,9 +12,10 @@ use Rattle.merging.specs.Automaton.{passes, start22, StateOf}
 use Rattle.merging.specs.Ready.{Takes, headerAgrees, takesHeader}
 use Rattle.merging.specs.Chosen.Better.{word-keeps, header-keeps}
 use Rattle.merging.specs.Ready.Agrees.{one-agrees, word-agrees, word-passes, head-agrees, header-agrees, header-passes}
-use Rattle.merging.specs.Chosen.{Chosen, beforeWord, beforeHeader, forWord, forHeader, m100, m000}
+use Rattle.merging.specs.Chosen.{beforeWord, beforeHeader, m100, m000}
+use Rattle.merging.specs.Chosen.One.{Chosen, forWord, forHeader}
 use Rattle.merging.specs.Chosen.Fold.{chosen-word, chosen-header}
-use Rattle.merging.specs.Rule.{header, allowed}
+use Rattle.merging.specs.Rule.{syncHeaderBits, allowed}
 
 -- what the fold gives is chosen if it is allowed
 word-if : (ok : List ℕ → Bool) (dsv : List ℕ → ℕ) → T (ok (beforeWord ok dsv)) → Chosen forWord ok dsv (beforeWord ok dsv)
@@ -43,14 +44,14 @@ module _ (past : List ℕ) (s : ℕ) (d : StateOf past s) (dsv : List ℕ → �
       (word-passes s bs t dsv))
 
   -- before a Sync Header
-  pub header-chosen : T (takesHeader s) → Chosen forHeader (allowed past header) dsv (beforeHeader (allowed past header) dsv)
+  pub header-chosen : T (takesHeader s) → Chosen forHeader (allowed past syncHeaderBits) dsv (beforeHeader (allowed past syncHeaderBits) dsv)
   unfolding takesHeader
   header-chosen t =
       let both = and-left (headerAgrees s m100 && headerAgrees s m000) _ t in
       let agree = head-agrees s t dsv past d in
-      header-if (allowed past header) dsv
-      (same-allowed (allowed past header) (passes s start22) (beforeHeader (allowed past header) dsv) (beforeHeader (passes s start22) dsv)
+      header-if (allowed past syncHeaderBits) dsv
+      (same-allowed (allowed past syncHeaderBits) (passes s start22) (beforeHeader (allowed past syncHeaderBits) dsv) (beforeHeader (passes s start22) dsv)
       (header-agrees s t dsv past d)
-      (header-keeps (passes s start22) dsv (λ m. allowed past header m ≡ passes s start22 m)
+      (header-keeps (passes s start22) dsv (λ m. allowed past syncHeaderBits m ≡ passes s start22 m)
       (agree _ (and-left (headerAgrees s m100) (headerAgrees s m000) both)) (agree _ (and-right (headerAgrees s m100) (headerAgrees s m000) both)))
       (header-passes s t dsv))

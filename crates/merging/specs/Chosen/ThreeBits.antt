@@ -7,7 +7,8 @@ use Prim.Native.Nat.{ℕ, zero, suc, _<_}
 use native.Mathlib.Omega.{arith}
 use lib.ListN.{length, getD}
 use Rattle.bits.specs.Binary.{Binary}
-use Rattle.merging.specs.Chosen.{forWord, beforeWord, beforeHeader}
+use Rattle.merging.specs.Chosen.{beforeWord, beforeHeader}
+use Rattle.merging.specs.Chosen.One.{forWord}
 use Rattle.merging.specs.Chosen.Better.{word-keeps, header-keeps}
 
 -- each of the four is bits

@@ -7,7 +7,7 @@ use Prim.Native.Nat.{ℕ, zero, suc, _<_}
 use native.Mathlib.Omega.{arith}
 use lib.Dec.{T}
 use lib.ListN.{length}
-use Rattle.merging.specs.Rule.{header}
+use Rattle.merging.specs.Rule.{syncHeaderBits}
 use Rattle.merging.specs.Automaton.{broken, headed, step, steps, live, shown, start22}
 use Rattle.bits.specs.Binary.{Binary}
 use Rattle.lists.specs.Each.{Each}
@@ -52,22 +52,22 @@ placed-more past s c (b ∷ bs) d p t =
 abbrev Headed : ℕ → Type 0
 Headed s =
     T (live (steps s start22)) → (x : List ℕ)
-    → placed (earlier (length (shown s)) 0) (shown s ++ (header ++ x)) ≡ placed (earlier (length (shown headed)) 564) (shown headed ++ x)
+    → placed (earlier (length (shown s)) 0) (shown s ++ (syncHeaderBits ++ x)) ≡ placed (earlier (length (shown headed)) 564) (shown headed ++ x)
 
 headers-follow : Each Headed broken
 unfolding step placed
 headers-follow = (λ t x. absurd t, (λ t x. refl, (λ t x. refl, (λ t x. refl, (λ t x. refl, (λ t x. refl, (λ t x. refl, (λ t x. refl, (λ t x. refl, (λ t x. absurd t, (λ t x. absurd t, (λ t x. absurd t, (λ t x. refl, (λ t x. refl, (λ t x. refl, (λ t x. refl, (λ t x. refl, (λ t x. refl, (λ t x. refl, (λ t x. refl, (λ t x. absurd t, (λ t x. absurd t, tt))))))))))))))))))))))
 
 -- a Sync Header at its place leaves 564 bits to the next
-pub placed-header : (past : List ℕ) (s : ℕ) → Placed past s 0 → T (live (steps s start22)) → Placed (past ++ header) headed 564
+pub placed-header : (past : List ℕ) (s : ℕ) → Placed past s 0 → T (live (steps s start22)) → Placed (past ++ syncHeaderBits) headed 564
 placed-header past s d t =
     record {
       state = omega arith;
-      placed-on = λ x. ap (placed 0) (append-assoc past header x) ∙ d .placed-on (header ++ x) ∙ case Headed broken headers-follow s (d .state) t x;
+      placed-on = λ x. ap (placed 0) (append-assoc past syncHeaderBits x) ∙ d .placed-on (syncHeaderBits ++ x) ∙ case Headed broken headers-follow s (d .state) t x;
     }
 
 -- the first Sync Header of all
-pub placed-first : Placed header headed 564
+pub placed-first : Placed syncHeaderBits headed 564
 unfolding placed
 placed-first = record { state = omega arith; placed-on = λ x. refl }
 

@@ -7,7 +7,7 @@ use Prim.Native.Nat.{ℕ, _+_, _<_}
 use lib.Dec.{T, eqb}
 use lib.ListN.{length}
 use Rattle.outcome.specs.Table.Entries.{and-left, and-right}
-use Rattle.merging.specs.Rule.{header, headers, allowed}
+use Rattle.merging.specs.Rule.{syncHeaderBits, headers, allowed}
 use Rattle.merging.specs.Automaton.{steps, live, shown, start22, StateOf, passes}
 use Rattle.merging.specs.Chosen.{beforeWord, beforeHeader, m100, m010, m001, m000}
 use Rattle.merging.specs.Ready.{ready, ruled, agrees, wordAgrees, takes, headerAgrees, takesHeader, Takes}
@@ -104,15 +104,15 @@ module _ (s : ℕ) (t : T (takesHeader s)) (dsv : List ℕ → ℕ) where
 
   module _ (past : List ℕ) (d : StateOf past s) where
     -- the rule and the automaton agree on Merging bits m before a Sync Header
-    pub head-agrees : (m : List ℕ) → T (headerAgrees s m) → allowed past header m ≡ passes s start22 m
+    pub head-agrees : (m : List ℕ) → T (headerAgrees s m) → allowed past syncHeaderBits m ≡ passes s start22 m
     unfolding headerAgrees headers
-    head-agrees m u = allowed-is past s d 1 header m refl ∙ alike (live (steps s (m ++ start22))) (ruled 1 s (m ++ header)) u
+    head-agrees m u = allowed-is past s d 1 syncHeaderBits m refl ∙ alike (live (steps s (m ++ start22))) (ruled 1 s (m ++ syncHeaderBits)) u
 
     -- the rule and the automaton choose the same before a Sync Header
-    pub header-agrees : beforeHeader (allowed past header) dsv ≡ beforeHeader (passes s start22) dsv
+    pub header-agrees : beforeHeader (allowed past syncHeaderBits) dsv ≡ beforeHeader (passes s start22) dsv
     unfolding beforeHeader takesHeader
     header-agrees =
         let both = and-left (headerAgrees s m100 && headerAgrees s m000) _ t in
-        better-same (allowed past header) (passes s start22) dsv m100 m000
+        better-same (allowed past syncHeaderBits) (passes s start22) dsv m100 m000
         (head-agrees m100 (and-left (headerAgrees s m100) (headerAgrees s m000) both))
         (head-agrees m000 (and-right (headerAgrees s m100) (headerAgrees s m000) both))

@@ -7,7 +7,6 @@ use mathlib.Core.Bool.{Bool, true, false, cond, not, _&&_}
 use mathlib.Core.List.{List, [], _++_, append-assoc, append-nil}
 use Prim.Native.Nat.{ℕ, _+_, _<_}
 use native.Mathlib.Nat.{zero-add}
-use native.Mathlib.Omega.{arith}
 use borrow.Author.Tests.{eqb-true}
 use lib.Dec.{T, eqb, eqb→eq}
 use lib.ListN.{getD}
@@ -16,19 +15,18 @@ use Rattle.outcome.specs.Table.Entries.{below, and-left, and-right, of-true}
 use Rattle.bits.specs.Binary.{Binary}
 use Rattle.bits.specs.Binary.Parts.{binary-bits}
 use Rattle.bits.specs.Bits.{bitsOf}
-use Rattle.bits.specs.Bits.Numbers.{length-bits}
 use Rattle.words.specs.RunRule.{runs}
 use Rattle.words.specs.Symbols.{symbols, bitsAt}
 use Rattle.words.specs.Words.{words, sync0}
 use Rattle.merging.specs.Automaton.{broken, step, steps, live, shown, start22, StateOf}
 use Rattle.merging.specs.Automaton.Speaks.{shown-none, shown-state, state-more, none-more}
 use Rattle.merging.specs.Automaton.Steps.{steps-append, steps-broken, live-first}
-use Rattle.merging.specs.Chosen.{forWord, forHeader, m000}
+use Rattle.merging.specs.Chosen.{m000}
+use Rattle.merging.specs.Chosen.One.{forWord, forHeader}
 use Rattle.merging.specs.Chosen.ThreeBits.{for-word-binary}
 use Rattle.merging.specs.Ready.{ready, ruled, headerAgrees}
-use Rattle.merging.specs.Ready.Agrees.{allowed-is, alike}
-use Rattle.merging.specs.Rule.{header, headers, allowed}
-use Rattle.merging.specs.Rule.Headers.{headers-short}
+use Rattle.merging.specs.Ready.Agrees.{alike}
+use Rattle.merging.specs.Rule.{syncHeaderBits, headers}
 
 -- ---- after bits that the automaton lets pass the rule goes on from its state
 
@@ -164,24 +162,8 @@ agree-header = tt
 
 -- over all states and both Merging bits
 pub never-before-header : (s j : ℕ) → s < broken → j < 2
-    → ruled 1 s (getD forHeader j [] ++ header) ≡ live (steps s (getD forHeader j [] ++ start22))
+    → ruled 1 s (getD forHeader j [] ++ syncHeaderBits) ≡ live (steps s (getD forHeader j [] ++ start22))
 unfolding headerAgrees
 never-before-header s j hs hj =
-    alike (live (steps s (getD forHeader j [] ++ start22))) (ruled 1 s (getD forHeader j [] ++ header))
+    alike (live (steps s (getD forHeader j [] ++ start22))) (ruled 1 s (getD forHeader j [] ++ syncHeaderBits))
     (below (λ j. headerAgrees s (getD forHeader j [])) 2 (below (λ s. allBelow (λ j. headerAgrees s (getD forHeader j [])) 2) broken agree-header s hs) j hj)
-
--- ---- so after any bits at all what is allowed is what the automaton lets pass, but in that case
-
-module _ (past : List ℕ) (s : ℕ) (d : StateOf past s) where
-  -- before a word or a SYNC
-  pub allowed-but-once : (k j : ℕ) → k < 258 → j < 4 → (getD symbols k 0 ≡ sync0 → s ≡ 5 → j ≡ 3 → ⊥)
-      → allowed past (bitsOf 14 (getD symbols k 0)) (getD forWord j []) ≡ live (steps s (getD forWord j [] ++ bitsOf 14 (getD symbols k 0)))
-  allowed-but-once k j hk hj other =
-      let next = bitsOf 14 (getD symbols k 0) in
-      allowed-is past s d 0 next (getD forWord j []) (headers-short next (omega (arith, length-bits 14 (getD symbols k 0))))
-      ∙ apart-only k s j hk (d .state) hj other
-
-  -- and before a Sync Header
-  pub allowed-before-header : (j : ℕ) → j < 2 → allowed past header (getD forHeader j []) ≡ live (steps s (getD forHeader j [] ++ start22))
-  unfolding headers
-  allowed-before-header j h = allowed-is past s d 1 header (getD forHeader j []) refl ∙ never-before-header s j (d .state) h

@@ -15,7 +15,8 @@ use Rattle.words.specs.Symbols.Which.{symbol-word}
 use Rattle.words.specs.Words.{words, wordOf, sync0, sync1}
 use Rattle.words.specs.Words.Facts.{not-sync0}
 use Rattle.merging.specs.Automaton.{broken, headed, step, steps, live, passes}
-use Rattle.merging.specs.Chosen.{forWord, m100, m010, m001, m000}
+use Rattle.merging.specs.Chosen.{m100, m010, m001, m000}
+use Rattle.merging.specs.Chosen.One.{forWord}
 use Rattle.merging.specs.Ready.{ready, ruled, agrees, wordAgrees, takes, headerAgrees, takesHeader}
 use Rattle.merging.specs.Ready.Apart.{apart-only, ready-after}
 use Rattle.merging.specs.Rule.{headers}

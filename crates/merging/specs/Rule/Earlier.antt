@@ -11,7 +11,7 @@ use Rattle.words.specs.RunRule.{gaps, runs}
 use Rattle.merging.specs.Rule.Headers.{eqb-plus}
 use Rattle.merging.specs.Automaton.{headed, shown, StateOf}
 use Rattle.merging.specs.Chosen.{beforeWord, beforeHeader}
-use Rattle.merging.specs.Rule.{header, headers, allowed}
+use Rattle.merging.specs.Rule.{syncHeaderBits, headers, allowed}
 use Rattle.merging.specs.Automaton.Speaks.{state-first}
 
 -- the rule after a state and the bits `rest`
@@ -34,16 +34,16 @@ by-state past s d rest next m =
 pub allowed-same : (a b : List ℕ) (s : ℕ) → StateOf a s → StateOf b s → (rest next m : List ℕ) → allowed (a ++ rest) next m ≡ allowed (b ++ rest) next m
 allowed-same a b s p q rest next m = by-state a s p rest next m ∙ sym (by-state b s q rest next m)
 
-module _ (old : List ℕ) (follows : StateOf (old ++ header) headed) (rest next : List ℕ) where
+module _ (old : List ℕ) (follows : StateOf (old ++ syncHeaderBits) headed) (rest next : List ℕ) where
   -- after a Sync Header, and any bits after it, the bits `old` before that Sync Header change nothing that is allowed
-  pub earlier-allowed : (m : List ℕ) → allowed (old ++ (header ++ rest)) next m ≡ allowed (header ++ rest) next m
+  pub earlier-allowed : (m : List ℕ) → allowed (old ++ (syncHeaderBits ++ rest)) next m ≡ allowed (syncHeaderBits ++ rest) next m
   earlier-allowed m =
-      ap (λ (l : List ℕ). allowed l next m) (sym (append-assoc old header rest)) ∙ allowed-same (old ++ header) header headed follows state-first rest next m
+      ap (λ (l : List ℕ). allowed l next m) (sym (append-assoc old syncHeaderBits rest)) ∙ allowed-same (old ++ syncHeaderBits) syncHeaderBits headed follows state-first rest next m
 
   -- so the Merging bits chosen before a word are the same
-  pub earlier-word : (dsv : List ℕ → ℕ) → beforeWord (allowed (old ++ (header ++ rest)) next) dsv ≡ beforeWord (allowed (header ++ rest) next) dsv
+  pub earlier-word : (dsv : List ℕ → ℕ) → beforeWord (allowed (old ++ (syncHeaderBits ++ rest)) next) dsv ≡ beforeWord (allowed (syncHeaderBits ++ rest) next) dsv
   earlier-word dsv = λ i. beforeWord (λ m. earlier-allowed m i) dsv
 
   -- and so are those chosen before a Sync Header
-  pub earlier-header : (dsv : List ℕ → ℕ) → beforeHeader (allowed (old ++ (header ++ rest)) next) dsv ≡ beforeHeader (allowed (header ++ rest) next) dsv
+  pub earlier-header : (dsv : List ℕ → ℕ) → beforeHeader (allowed (old ++ (syncHeaderBits ++ rest)) next) dsv ≡ beforeHeader (allowed (syncHeaderBits ++ rest) next) dsv
   earlier-header dsv = λ i. beforeHeader (λ m. earlier-allowed m i) dsv

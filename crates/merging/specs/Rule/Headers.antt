@@ -9,7 +9,7 @@ use borrow.Author.Tests.{eqb-true, eqb-false, eq-eqb, ne-eqb}
 use lib.Dec.{T, eqb}
 use lib.ListN.{length}
 use Rattle.outcome.specs.Table.Entries.{and-right}
-use Rattle.merging.specs.Rule.{header, starts, headers}
+use Rattle.merging.specs.Rule.{syncHeaderBits, starts, headers}
 
 starts-long : (ps bs : List ℕ) → T (starts ps bs) → length ps ≤ length bs
 starts-long [] bs t = omega arith
@@ -17,11 +17,11 @@ starts-long (p ∷ ps) [] t = absurd t
 starts-long (p ∷ ps) (b ∷ bs) t = suc-le-suc (starts-long ps bs (and-right (eqb p b) (starts ps bs) t))
 
 -- fewer than 24 bits are no Sync Header
-pub starts-short : (bs : List ℕ) → length bs < 24 → starts header bs ≡ false
-starts-short bs h = go (starts header bs) refl
+pub starts-short : (bs : List ℕ) → length bs < 24 → starts syncHeaderBits bs ≡ false
+starts-short bs h = go (starts syncHeaderBits bs) refl
   where
-    go : (t : Bool) → starts header bs ≡ t → t ≡ false
-    go true e = absurd (omega (arith, starts-long header bs (subst T (sym e) tt)))
+    go : (t : Bool) → starts syncHeaderBits bs ≡ t → t ≡ false
+    go true e = absurd (omega (arith, starts-long syncHeaderBits bs (subst T (sym e) tt)))
     go false e = refl
 
 -- and have none

@@ -17,14 +17,17 @@ shared-slice-read-if2 c = search needs
 returns-2 : tie.Need-returns-2
 returns-2 c = search on-mode
 
-shared-slice-read-t6 : tie.Need-shared-slice-read-t6
-shared-slice-read-t6 c = search needs
+shared-slice-read-new : tie.Need-shared-slice-read-new
+shared-slice-read-new c = search needs
 
-shared-slice-read-t9 : tie.Need-shared-slice-read-t9
-shared-slice-read-t9 c = search needs
+shared-slice-read-new-2 : tie.Need-shared-slice-read-new-2
+shared-slice-read-new-2 c = search needs
 
-shared-slice-read-t11 : tie.Need-shared-slice-read-t11
-shared-slice-read-t11 c = search needs
+shared-slice-read-new-3 : tie.Need-shared-slice-read-new-3
+shared-slice-read-new-3 c = search needs
+
+new-requires : tie.Need-new-requires
+new-requires c κs = search needs
 
 in-range-requires : tie.Need-in-range-requires
 in-range-requires c κs = search needs
@@ -33,7 +36,7 @@ returns-3 : tie.Need-returns-3
 returns-3 c = search on-address
 
 slice-aggregate-holds : tie.Need-slice-aggregate-holds
-slice-aggregate-holds c = sym (length-take-le 2068 (c .before .before .before .before .before .before .before .before .before .before .args .s .now) (omega arith))
+slice-aggregate-holds c = sym (length-take-le 2068 (c .before .before .before .before .before .before .before .before .before .before .before .args .s .now) (omega arith))
 
 holds-requires : tie.Need-holds-requires
 holds-requires c κs = search needs
@@ -54,9 +57,10 @@ rules-right-spec =
     returns
     shared-slice-read-if2
     returns-2
-    shared-slice-read-t6
-    shared-slice-read-t9
-    shared-slice-read-t11
+    shared-slice-read-new
+    shared-slice-read-new-2
+    shared-slice-read-new-3
+    new-requires
     in-range-requires
     returns-3
     slice-aggregate-holds

@@ -18,7 +18,7 @@ use Rattle.words.specs.Words.{words}
 use Rattle.merging.specs.Automaton.{broken, step, steps}
 use Rattle.merging.specs.Automaton.Steps.{step-low, steps-broken}
 use Rattle.merging.specs.Dsv.Levels.{ups-downs, level-le}
-use Rattle.states.specs.States.{entered}
+use Rattle.automaton_states.specs.States.{entered}
 use Rattle.profiles.specs.declared.Profile.{Profile}
 use Rattle.profiles.specs.Profiles.{leadOf, restOf, profileOf, Profiled}
 

@@ -11,6 +11,7 @@ use Rattle.replaying.specs.Replay.{replaying}
 use Rattle.replay.specs.declared.Replayed.{Replayed}
 use Rattle.replay.specs.declared.Replayed.the-variants.{Done, WrongIncoming, WrongOutgoing, IllegalRun, NoHeader}
 use Rattle.replay.specs.Answers.{sayOf}
+use Rattle.replay.specs.FromEdge.{replayingFrom}
 
 answer : Say → Replayed
 answer (done vs) = Done (getD vs 0 0) (getD vs 1 0)
@@ -24,9 +25,17 @@ told WrongOutgoing = refl
 told (IllegalRun i) = refl
 told NoHeader = refl
 
+told-one : (o : Outcome) (a b : Replayed) (s t : List ℕ) → outcome (sayOf a) s ≡ o → outcome (sayOf b) t ≡ o → (a ≡ b) × (s ≡ t)
+told-one o a b s t p q =
+    let e : outcome (sayOf a) s ≡ outcome (sayOf b) t = p ∙ sym q in
+    (sym (told a) ∙ ap (λ (o : Outcome). answer (o .say)) e ∙ told b, ap (λ (o : Outcome). o .out) e)
+
 -- two outcomes that the promise of `replay` allows coincide
 pub replayed-one : (capture old : List ℕ) (a b : Replayed) (s t : List ℕ) → outcome (sayOf a) s ≡ replaying capture old
     → outcome (sayOf b) t ≡ replaying capture old → (a ≡ b) × (s ≡ t)
-replayed-one capture old a b s t p q =
-    let e : outcome (sayOf a) s ≡ outcome (sayOf b) t = p ∙ sym q in
-    (sym (told a) ∙ ap (λ (o : Outcome). answer (o .say)) e ∙ told b, ap (λ (o : Outcome). o .out) e)
+replayed-one capture old = told-one (replaying capture old)
+
+-- and two that the promise of `play` allows, at edge k
+pub played-one : (capture old : List ℕ) (k : ℕ) (a b : Replayed) (s t : List ℕ) → outcome (sayOf a) s ≡ replayingFrom capture k old
+    → outcome (sayOf b) t ≡ replayingFrom capture k old → (a ≡ b) × (s ≡ t)
+played-one capture old k = told-one (replayingFrom capture k old)

@@ -11,7 +11,7 @@ use lib.ListN.{length, getD, drop, replicate, length-drop, length-replicate, get
 use lib.Seq.{drop-at, getD-drop}
 use Rattle.outcome.specs.Table.{allBelow}
 use Rattle.outcome.specs.Table.Entries.{and-right, below}
-use Rattle.merging.specs.Rule.{header, starts}
+use Rattle.merging.specs.Rule.{syncHeaderBits, starts}
 use Rattle.merging.specs.Rule.Headers.{starts-short}
 use Rattle.replaying.specs.Replay.{channel}
 use Rattle.replaying.specs.Replay.Sizes.{Legal, bitsOfRuns, length-channel}
@@ -57,14 +57,14 @@ starts-like (p ∷ ps) (b ∷ bs) t zero h = sym (head (eqb p b) refl t)
     head false e u = absurd (rw e at u)
 starts-like (p ∷ ps) (b ∷ bs) t (suc i) h = starts-like ps bs (and-right (eqb p b) (starts ps bs) t) i (omega arith)
 
-header-like : (bs : List ℕ) → starts header bs ≡ true → (i : ℕ) → i < 24 → getD bs i 0 ≡ getD header i 0
-header-like bs e i h = starts-like header bs (subst T (sym e) tt) i h
+header-like : (bs : List ℕ) → starts syncHeaderBits bs ≡ true → (i : ℕ) → i < 24 → getD bs i 0 ≡ getD syncHeaderBits i 0
+header-like bs e i h = starts-like syncHeaderBits bs (subst T (sym e) tt) i h
 
 -- bits that differ from the Sync Header at a place are none
-no-header : (bs : List ℕ) (i : ℕ) → i < 24 → (getD bs i 0 ≡ getD header i 0 → ⊥) → starts header bs ≡ false
-no-header bs i h n = go (starts header bs) refl
+no-header : (bs : List ℕ) (i : ℕ) → i < 24 → (getD bs i 0 ≡ getD syncHeaderBits i 0 → ⊥) → starts syncHeaderBits bs ≡ false
+no-header bs i h n = go (starts syncHeaderBits bs) refl
   where
-    go : (t : Bool) → starts header bs ≡ t → t ≡ false
+    go : (t : Bool) → starts syncHeaderBits bs ≡ t → t ≡ false
     go true e = absurd (n (header-like bs e i h))
     go false e = refl
 
@@ -75,7 +75,7 @@ differs p q e = omega arith
 
 -- eight ZEROs of its first run, and of its second
 zeros-from : ℕ → ℕ → Bool
-zeros-from k i = eqb (getD header (i + k) 0) 0
+zeros-from k i = eqb (getD syncHeaderBits (i + k) 0) 0
 
 first-zeros : T (allBelow (zeros-from 3) 8)
 unfolding zeros-from
@@ -85,20 +85,20 @@ second-zeros : T (allBelow (zeros-from 14) 8)
 unfolding zeros-from
 second-zeros = tt
 
-zero-in-first : (b : ℕ) → 3 ≤ b → b ≤ 10 → getD header b 0 ≡ 0
+zero-in-first : (b : ℕ) → 3 ≤ b → b ≤ 10 → getD syncHeaderBits b 0 ≡ 0
 unfolding zeros-from
 zero-in-first b h k =
     let e : b ≡ b - 3 + 3 = omega arith in
-    ap (λ (i : ℕ). getD header i 0) e ∙ eqb→eq (getD header (b - 3 + 3) 0) 0 (below (zeros-from 3) 8 first-zeros (b - 3) (omega arith))
+    ap (λ (i : ℕ). getD syncHeaderBits i 0) e ∙ eqb→eq (getD syncHeaderBits (b - 3 + 3) 0) 0 (below (zeros-from 3) 8 first-zeros (b - 3) (omega arith))
 
-zero-in-second : (b : ℕ) → 3 ≤ b → b ≤ 10 → getD header (11 + b) 0 ≡ 0
+zero-in-second : (b : ℕ) → 3 ≤ b → b ≤ 10 → getD syncHeaderBits (11 + b) 0 ≡ 0
 unfolding zeros-from
 zero-in-second b h k =
     let e : 11 + b ≡ b - 3 + 14 = omega arith in
-    ap (λ (i : ℕ). getD header i 0) e ∙ eqb→eq (getD header (b - 3 + 14) 0) 0 (below (zeros-from 14) 8 second-zeros (b - 3) (omega arith))
+    ap (λ (i : ℕ). getD syncHeaderBits i 0) e ∙ eqb→eq (getD syncHeaderBits (b - 3 + 14) 0) 0 (below (zeros-from 14) 8 second-zeros (b - 3) (omega arith))
 
 -- a first run of fewer than 11 bits
-pub first-short : (b : ℕ) (ds : List ℕ) → 3 ≤ b → b ≤ 10 → starts header (run b (channel ds)) ≡ false
+pub first-short : (b : ℕ) (ds : List ℕ) → 3 ≤ b → b ≤ 10 → starts syncHeaderBits (run b (channel ds)) ≡ false
 first-short b ds h k =
     no-header (run b (channel ds)) b (omega arith)
     (differs (ap (λ (i : ℕ). getD (run b (channel ds)) i 0) (plus b) ∙ run-next b 0 (channel ds) (omega arith) ∙ channel-one ds) (zero-in-first b h k))
@@ -107,7 +107,7 @@ first-short b ds h k =
     plus b = omega arith
 
 -- a second run of fewer than 11 bits
-pub second-short : (b : ℕ) (ds : List ℕ) → 3 ≤ b → b ≤ 10 → starts header (run 11 (run b (channel ds))) ≡ false
+pub second-short : (b : ℕ) (ds : List ℕ) → 3 ≤ b → b ≤ 10 → starts syncHeaderBits (run 11 (run b (channel ds))) ≡ false
 second-short b ds h k =
     no-header (run 11 (run b (channel ds))) (11 + b) (omega arith)
     (differs
@@ -119,16 +119,16 @@ second-short b ds h k =
     plus b = omega arith
 
 -- two runs of 11 bits and a further edge
-pub both-long : (b : ℕ) (rest : List ℕ) → 3 ≤ b → starts header (run 11 (run 11 (run b rest))) ≡ true
+pub both-long : (b : ℕ) (rest : List ℕ) → 3 ≤ b → starts syncHeaderBits (run 11 (run 11 (run b rest))) ≡ true
 both-long zero rest h = absurd (omega arith)
 both-long (suc zero) rest h = absurd (omega arith)
-both-long (suc (suc b)) rest h = ap (λ (k : ℕ). starts header (run 11 (run 11 (1 ∷ (replicate k 0 ++ rest))))) (less b)
+both-long (suc (suc b)) rest h = ap (λ (k : ℕ). starts syncHeaderBits (run 11 (run 11 (1 ∷ (replicate k 0 ++ rest))))) (less b)
   where
     less : (b : ℕ) → suc (suc b) - 1 ≡ suc b
     less b = omega arith
 
 -- fewer than three runs hold none
-pub few-runs : (ds : List ℕ) → Legal ds → length ds ≤ 2 → (p : ℕ) → starts header (drop p (channel ds)) ≡ false
+pub few-runs : (ds : List ℕ) → Legal ds → length ds ≤ 2 → (p : ℕ) → starts syncHeaderBits (drop p (channel ds)) ≡ false
 unfolding bitsOfRuns
 few-runs [] l h p = starts-short (drop p (channel [])) (omega (arith, length-channel [] l, length-drop p (channel [])))
 few-runs (d ∷ []) l h p =
@@ -139,7 +139,7 @@ few-runs (d ∷ e ∷ []) l h p =
 few-runs (d ∷ e ∷ f ∷ ds) l h p = absurd (omega arith)
 
 -- within a run none begins
-pub within-run : (b p : ℕ) (rest : List ℕ) → 0 < p → p < b → starts header (drop p (run b rest)) ≡ false
+pub within-run : (b p : ℕ) (rest : List ℕ) → 0 < p → p < b → starts syncHeaderBits (drop p (run b rest)) ≡ false
 within-run b p rest h k =
     no-header (drop p (run b rest)) 0 (omega arith)
     (λ e. let z : getD (drop p (run b rest)) 0 0 ≡ 0 = getD-drop p (run b rest) 0 0 ∙ ap (λ (i : ℕ). getD (run b rest) i 0) (plus p) ∙ run-zero b p rest h k in

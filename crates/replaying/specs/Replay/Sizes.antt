@@ -7,7 +7,7 @@ use native.Mathlib.Omega.{arith}
 use lib.ListN.{length, replicate, length-append, length-replicate}
 use Rattle.bits.specs.Bits.Packed.{length-pack}
 use Rattle.captures.specs.Counts.{bitsIn}
-use Rattle.replaying.specs.Replay.{channel, framesFrom, bytesFor, packed, framesOf, firstHeader}
+use Rattle.replaying.specs.Replay.{channel, framesFrom, bytesFor, packed, framesOf}
 
 -- each run is of 3 to 11 bits
 abbrev pub Legal : List ℕ → Type 0
@@ -32,9 +32,9 @@ bits-at-most [] l = omega arith
 bits-at-most (d ∷ ds) l = omega (arith, l .1, bits-at-most ds (l .2))
 
 -- the used length is exact
-pub length-frames : (bits : List ℕ) → length (framesOf bits) ≡ bytesFor (framesFrom bits (firstHeader bits))
+pub length-frames : (bits : List ℕ) (p : ℕ) → length (framesOf bits p) ≡ bytesFor (framesFrom bits p)
 unfolding framesOf packed
-length-frames bits = length-pack (bytesFor (framesFrom bits (firstHeader bits))) _
+length-frames bits p = length-pack (bytesFor (framesFrom bits p)) _
 
 -- n frames take the bytes that their bits begin, so that a last half byte counts as used
 pub half-byte-counts : (n : ℕ) → (588 * n ≤ 8 * bytesFor n) × (8 * bytesFor n ≤ 588 * n + 4)

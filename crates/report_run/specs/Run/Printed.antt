@@ -6,11 +6,11 @@ use mathlib.Core.List.{List, [], _∷_, _++_, append-assoc, append-nil}
 use Prim.Native.Nat.{ℕ, suc, _+_, _<_}
 use native.Mathlib.Omega.{arith}
 use lib.ListN.{length, take, drop, take-append-drop}
-use Rattle.tally.specs.declared.Counts.{Counts}
-use Rattle.tally.specs.declared.Fate.{Fate}
+use Rattle.fate_counts.specs.declared.Counts.{Counts}
+use Rattle.fate_counts.specs.declared.Fate.{Fate}
 use Rattle.text.specs.Report.{firstLine, fateLine, fateLines, tailLine, lastLine, isClean, isRepaired, isRefused, howMany, report}
-use Rattle.standing.specs.declared.Stand.{Stand}
-use Rattle.standing.specs.declared.Stand.the-variants.{Opening, Going, AtEnd, Closing, Done, ReadFailed, WriteFailed}
+use Rattle.report_stand.specs.declared.Stand.{Stand}
+use Rattle.report_stand.specs.declared.Stand.the-variants.{Opening, Going, AtEnd, Closing, Done, ReadFailed, WriteFailed}
 use Rattle.report_run.specs.Run.{Step, opens, tells, ends, unread, counts-left, closes, unwritten, Run, begins, goes}
 use Rattle.report_run.specs.Run.Seen.{Seen, see-none, see, seen-add-up}
 

@@ -5,9 +5,9 @@ use mathlib.Core.List.{List, [], _∷_, _++_}
 use Prim.Native.Nat.{ℕ, _+_, _<_}
 use native.Mathlib.Omega.{arith}
 use lib.ListN.{length, length-append}
-use Rattle.tally.specs.declared.Counts.{Counts}
-use Rattle.tally.specs.declared.Fate.{Fate}
-use Rattle.tally.specs.Counting.{largest, noneCounted, countedWith}
+use Rattle.fate_counts.specs.declared.Counts.{Counts}
+use Rattle.fate_counts.specs.declared.Fate.{Fate}
+use Rattle.fate_counts.specs.Counting.{largest, noneCounted, countedWith}
 use Rattle.text.specs.Report.Room.{Room, counted-right}
 use Rattle.text.specs.Report.{isClean, isRepaired, isRefused, howMany}
 use Rattle.text.specs.Report.Counts.{counts-add-up}

@@ -1,7 +1,7 @@
 -- `reporting::close` meets its contract: nothing more is said unless the input is at its end (`Ends`).
 -- Assumes nothing.
 use mathlib.Core.Path.{subst}
-use Rattle.standing.specs.declared.Stand.{Stand}
+use Rattle.report_stand.specs.declared.Stand.{Stand}
 use Rattle.report_run.specs.Run.{Reached}
 use Rattle.reporting.proofs.Ends.{ended-before, ended-there, ended-well}
 use Rattle.reporting.proofs.Steps.{reach}

@@ -6,8 +6,8 @@ use native.Mathlib.Omega.{arith}
 use borrow.Author.Needs.{needs}
 use lib.ListN.{length, take}
 use lib.Seq.{length-front, length-take-le}
-use Rattle.reading.specs.Reading.{Fills}
-use Rattle.standing.specs.Standing.{ahead}
+use Rattle.input_reading.specs.Reading.{Fills}
+use Rattle.report_stand.specs.Standing.{ahead}
 use Rattle.reporting.proofs.turn.Statement.{statement}
 use Rattle.reporting.proofs.turn.Tie as tie
 

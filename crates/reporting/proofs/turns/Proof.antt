@@ -7,8 +7,8 @@ use Prim.Native.Nat.{ℕ, _≤_, _-_}
 use native.Mathlib.Omega.{arith}
 use borrow.Author.Needs.{needs}
 use lib.ListN.{length}
-use Rattle.tally.specs.Counting.{largest}
-use Rattle.standing.specs.Standing.{isOver}
+use Rattle.fate_counts.specs.Counting.{largest}
+use Rattle.report_stand.specs.Standing.{isOver}
 use Rattle.report_run.specs.Run.{Turning}
 use Rattle.reporting.proofs.Steps.{turned-over}
 use Rattle.reporting.proofs.Reaching.{ends-there, goes-on}

@@ -4,12 +4,12 @@ use mathlib.Core.Path.{_≡_}
 use mathlib.Core.List.{List}
 use Prim.Native.Nat.{ℕ, _*_, _/_}
 use lib.ListN.{length}
-use Rattle.tally.specs.declared.Counts.{Counts}
-use Rattle.reading.specs.declared.Filled.{Filled}
-use Rattle.reading.specs.Reading.{Fills}
-use Rattle.standing.specs.declared.Progress.{Progress}
-use Rattle.standing.specs.Standing.{ahead, standAfter}
-use Rattle.saying.specs.Told.{Told}
+use Rattle.fate_counts.specs.declared.Counts.{Counts}
+use Rattle.input_reading.specs.declared.Filled.{Filled}
+use Rattle.input_reading.specs.Reading.{Fills}
+use Rattle.report_stand.specs.declared.Progress.{Progress}
+use Rattle.report_stand.specs.Standing.{ahead, standAfter}
+use Rattle.report_lines.specs.Told.{Told}
 
 -- a turn: as many Sectors are asked for as `ahead` says, the lines of all whole ones that came follow, and then it stands as reading ended
 pub record Turn (c : Counts) (p : Progress) : Type 0 where

@@ -13,7 +13,8 @@ use Rattle.rspc.specs.declared.Parity.{Parity}
 use Rattle.rspc.specs.Either.{endOf}
 use Rattle.rspc.specs.Either.Bytewise.{covers}
 use Rattle.rspc.specs.Place.One.{in-place-one}
-use Rattle.rspc.specs.Pass.{eachNear, Passed, Pass}
+use Rattle.rspc.specs.Pass.{Passed}
+use Rattle.rspc.specs.PassInPlace.{eachNear, Pass}
 
 -- what a pass makes of a list is one list
 pub passed-one : (parity : Parity) (s t u : List ℕ) → Passed parity s t → Passed parity s u → t ≡ u

@@ -1,17 +1,14 @@
 -- The Q words of a Sector: the last two bytes of each, its parity, are from 2,248 to 2,351, and the others from 12 to 2,247.
 -- Assumes nothing.
 use mathlib.Core.Path.{_≡_, sym, _∙_}
-use mathlib.Core.Logic.{_⊎_, inl, inr}
 use mathlib.Core.List.{List}
 use Prim.Native.Nat.{ℕ, _+_, _-_, _*_, _%_, _<_, _≤_}
 use native.Mathlib.Omega.{arith}
 use borrow.Author.Tests.{lt-ltb, le-ltb}
 use lib.ListN.{length, getD}
-use lib.Seq.{ext-getD}
 use Rattle.outcome.specs.Bytes.{Bytes}
 use Rattle.outcome.specs.Table.Entries.{tabulated-at, length-tabulated, bytes-tabulated}
-use Rattle.outcome.specs.First.Found.{lt-or-le}
-use Rattle.rspc.specs.Words.{qNumber, qWords, qPlace, qWord, SameCovered, SameQParity}
+use Rattle.rspc.specs.Words.{qNumber, qWords, qPlace, qWord, SameCovered}
 
 -- a Q word has 45 bytes
 pub length-q : (s : List ℕ) (n : ℕ) → length (qWord s n) ≡ 45
@@ -41,15 +38,3 @@ q-front s t n m h l c =
     q-at s n m (omega arith)
     ∙ c (qPlace n m) (omega arith) (omega (arith, q-data (n % 26) m l))
     ∙ sym (q-at t n m (omega arith))
-
--- a Q word is what the covered bytes and the Q parity make it
-pub q-same : (s t : List ℕ) (n : ℕ) → n < qWords → SameCovered s t → SameQParity s t → qWord s n ≡ qWord t n
-q-same s t n h c q =
-    ext-getD 0 (qWord s n) (qWord t n) (length-q s n ∙ sym (length-q t n)) (λ m l. at m (omega (arith, length-q s n)) (lt-or-le m 43))
-  where
-    at : (m : ℕ) → m < 45 → (m < 43) ⊎ (43 ≤ m) → getD (qWord s n) m 0 ≡ getD (qWord t n) m 0
-    at m l (inl k) = q-front s t n m h k c
-    at m l (inr k) =
-        q-at s n m l
-        ∙ q (qPlace n m) (omega (arith, q-parity (n % 26) m k)) (omega (arith, q-parity (n % 26) m k))
-        ∙ sym (q-at t n m l)

@@ -9,8 +9,8 @@ use Rattle.outcome.specs.Say.{Say, done}
 use Rattle.outcome.specs.Say.Refusals.{never}
 use Rattle.codeword.specs.Code.{changes}
 use Rattle.sector.specs.Correct.{CorrectMode01}
-use Rattle.listing.specs.Listed.{Change, listed, listing, readBack, made}
-use Rattle.listing.specs.Listed.Made.{reads-back, made-gives}
+use Rattle.listing.specs.Listed.{Change, listed, listing}
+use Rattle.listing.specs.Listed.Made.{readBack, made, reads-back, made-gives}
 use Rattle.salvaging.specs.Salvage.{ResultOf, InRange, Room, Salvages, wrong-incoming, wrong-outgoing, wrong-passes, none-found, handed-out}
 
 pub record Given (r : List ℕ) (allowed : ℕ) (old changed v s l : List ℕ) : Type 0 where

@@ -10,13 +10,13 @@ use Rattle.outcome.specs.Bytes.{Bytes}
 use Rattle.outcome.specs.Say.{Say, done, refused}
 use Rattle.codeword.specs.Code.{changes, Near}
 use Rattle.codeword.specs.Code.Changes.{changes-self}
-use Rattle.codeword.specs.Nearest.{nearest}
+use Rattle.codeword.specs.Nearest.{nearest, foundOr}
 use Rattle.codeword.specs.Nearest.Finds.{nearest-sound, nearest-complete}
 use Rattle.rspc.specs.declared.Parity.the-variants.{P}
 use Rattle.rspc.specs.Words.{pWord}
 use Rattle.rspc.specs.Words.P.{length-p, bytes-p, p-same}
 use Rattle.rspc.specs.Either.Bytewise.{covers}
-use Rattle.rspc.specs.Pass.{foundOr, handedOn, Passed}
+use Rattle.rspc.specs.Pass.{afterPass, Passed}
 use Rattle.rspc.specs.Pass.Exists.{passed-some}
 use Rattle.trial.specs.Tried.{Tried}
 use Rattle.trial.specs.Tried.One.{correct-tried}
@@ -30,14 +30,14 @@ use Rattle.salvaging.specs.Salvage.One.{salvages-one}
 
 -- ---- a word that is handed on
 
-handed-close : (w : List ℕ) → Bytes w → changes w (handedOn w) ≤ 1
+handed-close : (w : List ℕ) → Bytes w → changes w (afterPass w) ≤ 1
 handed-close w h = go (nearest 2 w) refl
   where
     go : (o : Option (List ℕ)) → nearest 2 w ≡ o → changes w (foundOr w o) ≤ 1
     go none e = omega (arith, changes-self w)
     go (some c) e = nearest-sound 2 w h c e .close
 
-near-handed : (w c : List ℕ) → Bytes w → length w ≡ 26 → Near 2 w c → handedOn w ≡ c
+near-handed : (w c : List ℕ) → Bytes w → length w ≡ 26 → Near 2 w c → afterPass w ≡ c
 near-handed w c h l n = ap (foundOr w) (nearest-complete 2 w h (omega arith) (omega arith) c n)
 
 -- ---- what one pass over P leaves

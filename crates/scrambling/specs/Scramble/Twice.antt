@@ -1,21 +1,20 @@
 -- Laws of scrambling: the Sync is left, each other byte is added to its byte of the sequence, and twice gives the Sector again.
 -- Assumes nothing.
-use mathlib.Core.Path.{_≡_, sym, ap, ap₂, _∙_}
+use mathlib.Core.Path.{_≡_, ap, ap₂, _∙_}
 use mathlib.Core.List.{List, [], _++_}
-use Prim.Native.Nat.{ℕ, _+_, _<_}
+use Prim.Native.Nat.{ℕ, _+_}
 use native.Mathlib.Nat.{le-of-eq}
 use native.Mathlib.Omega.{arith}
-use lib.Bits.{bitXor}
-use lib.ListN.{length, getD, take, drop, take-append-drop, length-append, length-drop}
-use lib.Seq.{length-take-le, take-at, drop-at, getD-drop}
+use lib.ListN.{length, take, drop, take-append-drop, length-append, length-drop}
+use lib.Seq.{length-take-le, take-at, drop-at}
 use Rattle.outcome.specs.Bytes.{Bytes}
 use Rattle.outcome.specs.Bytes.Kept.{bytes-append, bytes-take, bytes-drop}
 use Rattle.outcome.specs.Say.{done, outcome}
 use Rattle.xor.specs.Added.{added}
-use Rattle.xor.specs.Added.Places.{length-added, added-at, added-twice, bytes-added}
+use Rattle.xor.specs.Added.Places.{length-added, added-twice, bytes-added}
 use Rattle.entry.specs.Entry.WaysOut.{taken-back}
-use Rattle.sequence.specs.Sequence.Follows.{length-sequence, sequence-at, bytes-sequence}
-use Rattle.sequence.specs.Sequence.{byteAt, sequence}
+use Rattle.sequence.specs.Sequence.Follows.{length-sequence, bytes-sequence}
+use Rattle.sequence.specs.Sequence.{sequence}
 use Rattle.scrambling.specs.Scramble.{scrambled, scrambling}
 
 pub bytes-scrambled : (s : List ℕ) → Bytes s → Bytes (scrambled s)
@@ -42,13 +41,6 @@ module _ (s : List ℕ) (whole : length s ≡ 2352) where
   pub rest-added : drop 12 (scrambled s) ≡ added (drop 12 s) sequence
   unfolding scrambled
   rest-added = drop-at (take 12 s) (added (drop 12 s) sequence) 12 sync-long
-
-  pub scrambled-at : (i : ℕ) → i < 2340 → getD (scrambled s) (12 + i) 0 ≡ bitXor (getD s (12 + i) 0) (byteAt i)
-  scrambled-at i h =
-      sym (getD-drop 12 (scrambled s) i 0)
-      ∙ ap (λ (t : List ℕ). getD t i 0) rest-added
-      ∙ added-at (drop 12 s) sequence i (omega (arith, as-long, length-sequence)) (omega (arith, length-sequence))
-      ∙ ap₂ bitXor (getD-drop 12 s i 0) (sequence-at i h)
 
   -- scrambling twice gives the same bytes
   pub scrambled-twice : scrambled (scrambled s) ≡ s

@@ -13,7 +13,7 @@ use Rattle.bits.specs.Bits.{unpack, pack}
 use Rattle.bits.specs.Bits.Packed.{length-unpack, pack-unpack}
 use Rattle.bits.specs.Binary.{Binary}
 use Rattle.words.specs.RunRule.{runs}
-use Rattle.merging.specs.Rule.{header, starts}
+use Rattle.merging.specs.Rule.{syncHeaderBits, starts}
 use Rattle.replaying.specs.Replay.{channel, firstHeader, framesFrom, bytesFor, packed, framesOf}
 use Rattle.replaying.specs.Replay.Sizes.{Legal}
 use Rattle.replaying.specs.Replay.Edges.{header-here}
@@ -36,21 +36,21 @@ pub record Turned (bits ds : List ℕ) : Type 0 where
   pub channel-is : channel ds ≡ bits ++ (1 ∷ [])
   pub legal : Legal ds
 
-turned : (bits ds : List ℕ) → Binary bits → starts header (bits ++ header) ≡ true → 0 < length bits → runs (bits ++ header) ≡ true
+turned : (bits ds : List ℕ) → Binary bits → starts syncHeaderBits (bits ++ syncHeaderBits) ≡ true → 0 < length bits → runs (bits ++ syncHeaderBits) ≡ true
     → Ticks ds (gapsOf bits) → Turned bits ds
 unfolding gapsOf
 turned [] ds b s h r t = absurd (omega arith)
 turned (zero ∷ bs) ds b s h r t = never (sym s)
-turned (suc zero ∷ bs) ds b s h r t = record { channel-is = gaps-channel 0 bs ds (b .1) t; legal = gaps-legal 0 bs ds (drop 1 header) r t }
+turned (suc zero ∷ bs) ds b s h r t = record { channel-is = gaps-channel 0 bs ds (b .1) t; legal = gaps-legal 0 bs ds (drop 1 syncHeaderBits) r t }
 turned (suc (suc x) ∷ bs) ds b s h r t = absurd (omega (arith, b .0))
 
 module _ (sections ds : List ℕ) (n : ℕ) (bytes : Bytes sections) (long : length sections ≡ 7203 * n) (some : 1 ≤ n)
-    (kept : Kept (unpack sections ++ header) n) (t : Ticks ds (gapsOf (unpack sections))) where
+    (kept : Kept (unpack sections ++ syncHeaderBits) n) (t : Ticks ds (gapsOf (unpack sections))) where
   bits-long : length (unpack sections) ≡ 57624 * n
   bits-long = omega (arith, length-unpack sections)
 
-  at-first : starts header (unpack sections ++ header) ≡ true
-  at-first = kept .headers-are 0 (omega (arith, length-append (unpack sections) header, bits-long))
+  at-first : starts syncHeaderBits (unpack sections ++ syncHeaderBits) ≡ true
+  at-first = kept .headers-are 0 (omega (arith, length-append (unpack sections) syncHeaderBits, bits-long))
 
   pub all-turned : Turned (unpack sections) ds
   all-turned = turned (unpack sections) ds (binary-unpack sections) at-first (omega (arith, bits-long)) (kept .runs-are) t
@@ -59,7 +59,7 @@ module _ (sections ds : List ℕ) (n : ℕ) (bytes : Bytes sections) (long : len
   pub header-first : firstHeader (channel ds) ≡ 0
   header-first =
       header-here (channel ds)
-      (ap (starts header) (all-turned .channel-is) ∙ starts-same header (unpack sections) (1 ∷ []) header (omega (arith, bits-long)) ∙ at-first)
+      (ap (starts syncHeaderBits) (all-turned .channel-is) ∙ starts-same syncHeaderBits (unpack sections) (1 ∷ []) syncHeaderBits (omega (arith, bits-long)) ∙ at-first)
 
   pub bits-in-all : length (channel ds) ≡ 57624 * n + 1
   bits-in-all = ap length (all-turned .channel-is) ∙ omega (arith, length-append (unpack sections) (1 ∷ []), bits-long)
@@ -70,7 +70,7 @@ module _ (sections ds : List ℕ) (n : ℕ) (bytes : Bytes sections) (long : len
   frames-in-all = omega (arith, header-first, bits-in-all)
 
   -- the frames are the Sections
-  pub frames-are : framesOf (channel ds) ≡ sections
+  pub frames-are : framesOf (channel ds) (firstHeader (channel ds)) ≡ sections
   unfolding framesOf packed
   frames-are =
       ap₂ (λ (p m : ℕ). packed (channel ds) p m) header-first frames-in-all

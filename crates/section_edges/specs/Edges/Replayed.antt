@@ -11,13 +11,13 @@ use Rattle.outcome.specs.Bytes.{Bytes}
 use Rattle.outcome.specs.First.Found.{found-first}
 use Rattle.outcome.specs.Say.{Say, done, outcome, answered}
 use Rattle.bits.specs.Bits.{unpack}
-use Rattle.merging.specs.Rule.{header}
+use Rattle.merging.specs.Rule.{syncHeaderBits}
 use Rattle.captures.specs.Counts.{countsOf, Counts, edges, runsOf, bitsIn, legal}
 use Rattle.captures.specs.Counts.Bytes.{counts-bytes}
 use Rattle.captures.specs.Counts.Round.{distances-edges}
 use Rattle.captures.specs.Kept.{restored, captureOf, filled}
 use Rattle.captures.specs.Kept.Back.{length-capture}
-use Rattle.replaying.specs.Replay.{channel, channelOf, firstHeader, framesFrom, bytesFor, firstIllegal, framesOf, headerSay, runsSay, replaySay, replaying}
+use Rattle.replaying.specs.Replay.{channel, channelOf, firstHeader, framesFrom, bytesFor, firstIllegal, framesOf, headerSay, runsSay, replaySay, replayingAt, replaying}
 use Rattle.replaying.specs.Replay.Sizes.{Legal}
 use Rattle.section_writer.specs.declared.SectionWriter.{SectionWriter}
 use Rattle.sections.specs.Stream.{Part, streamOf}
@@ -52,7 +52,7 @@ none-illegal ds l =
     (record { within = omega arith; before = λ i h e. never (legal-at ds i l h) e; holds = λ h. absurd (omega arith) }))
 
 module _ (sections ds old : List ℕ) (c n : ℕ) (bytes : Bytes sections) (long : length sections ≡ 7203 * n) (some : 1 ≤ n)
-    (kept : Kept (unpack sections ++ header) n) (t : Ticks ds (gapsOf (unpack sections))) (h : c < 65536) (few : length ds < 32768) (right : length old ≡ 65536) where
+    (kept : Kept (unpack sections ++ syncHeaderBits) n) (t : Ticks ds (gapsOf (unpack sections))) (h : c < 65536) (few : length ds < 32768) (right : length old ≡ 65536) where
   legal-ds : Legal ds
   legal-ds = all-turned sections ds n bytes long some kept t .legal
 
@@ -72,7 +72,7 @@ module _ (sections ds old : List ℕ) (c n : ℕ) (bytes : Bytes sections) (long
   capture-long = omega (arith, length-capture (c ∷ ds))
 
   -- nothing is refused
-  says : replaySay capture old ≡ done (7203 * n ∷ 98 * n ∷ [])
+  says : replaySay capture (firstHeader (channelOf (countsOf capture))) old ≡ done (7203 * n ∷ 98 * n ∷ [])
   unfolding replaySay
   says =
       let e : length capture % 2 ≡ 0 = omega (arith, capture-long) in
@@ -80,11 +80,11 @@ module _ (sections ds old : List ℕ) (c n : ℕ) (bytes : Bytes sections) (long
       let l : length ds ≤ firstIllegal ds = omega (arith, none-illegal ds legal-ds) in
       let p : firstHeader (channel ds) < length (channel ds)
       = omega (arith, header-first sections ds n bytes long some kept t, bits-in-all sections ds n bytes long some kept t) in
-      let right-lengths : replaySay capture old
+      let right-lengths : replaySay capture (firstHeader (channelOf (countsOf capture))) old
       ≡ runsSay (runsOf (countsOf capture)) (firstIllegal (runsOf (countsOf capture)))
       (headerSay (channelOf (countsOf capture)) (firstHeader (channelOf (countsOf capture))))
       = simp (eq-eqb (length capture % 2) 0 e, le-leb (length capture) 65536 k, eq-eqb (length old) 65536 right) in
-      let first : replaySay capture old ≡ runsSay ds (firstIllegal ds) (headerSay (channel ds) (firstHeader (channel ds)))
+      let first : replaySay capture (firstHeader (channelOf (countsOf capture))) old ≡ runsSay ds (firstIllegal ds) (headerSay (channel ds) (firstHeader (channel ds)))
       = right-lengths ∙ ap₂ (λ (rs bs : List ℕ). runsSay rs (firstIllegal rs) (headerSay bs (firstHeader bs))) runs-are bits-are in
       let second : runsSay ds (firstIllegal ds) (headerSay (channel ds) (firstHeader (channel ds))) ≡ headerSay (channel ds) (firstHeader (channel ds))
       = simp (le-ltb (firstIllegal ds) (length ds) l) in
@@ -97,11 +97,11 @@ module _ (sections ds old : List ℕ) (c n : ℕ) (bytes : Bytes sections) (long
 
   -- WHOLE SECTIONS that are accepted, turned into edges, come back
   pub sections-replayed : replaying (captureOf (c ∷ ds)) old ≡ outcome (done (7203 * n ∷ 98 * n ∷ [])) (filled 65536 sections)
-  unfolding replaying capture
+  unfolding replaying replayingAt capture
   sections-replayed =
-      ap (λ (s : Say). answered s 65536 (filled 65536 (framesOf (channelOf (countsOf capture)))) old) says
+      ap (λ (s : Say). answered s 65536 (filled 65536 (framesOf (channelOf (countsOf capture)) (firstHeader (channelOf (countsOf capture))))) old) says
       ∙ ap (λ (l : List ℕ). outcome (done (7203 * n ∷ 98 * n ∷ [])) (filled 65536 l))
-      (ap framesOf bits-are ∙ frames-are sections ds n bytes long some kept t)
+      (ap (λ (bs : List ℕ). framesOf bs (firstHeader bs)) bits-are ∙ frames-are sections ds n bytes long some kept t)
 
 -- so do those of our Section writer, from any state
 pub written-replayed : (s : SectionWriter) (ps : List Part) (sections ds old : List ℕ) (c : ℕ) → Bytes sections → unpack sections ≡ streamOf s ps
@@ -109,4 +109,4 @@ pub written-replayed : (s : SectionWriter) (ps : List Part) (sections ds old : L
     → replaying (captureOf (c ∷ ds)) old ≡ outcome (done (7203 * length ps ∷ 98 * length ps ∷ [])) (filled 65536 sections)
 written-replayed s ps sections ds old c bytes e long some t h few right =
     sections-replayed sections ds old c (length ps) bytes long some
-    (subst (λ (l : List ℕ). Kept (l ++ header) (length ps)) (sym e) (stream-kept s ps)) t h few right
+    (subst (λ (l : List ℕ). Kept (l ++ syncHeaderBits) (length ps)) (sym e) (stream-kept s ps)) t h few right

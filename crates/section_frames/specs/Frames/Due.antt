@@ -10,7 +10,7 @@ use lib.ListN.{length}
 use Rattle.outcome.specs.Table.Entries.{and-left, and-right, of-true}
 use Rattle.traces.specs.declared.Tally.{Tally}
 use Rattle.traces.specs.Traces.{Within}
-use Rattle.section_state.specs.Carried.{farthest}
+use Rattle.section_state.specs.Tallies.{farthest}
 use Rattle.section_frames.specs.Frames.{near, due, FramesDone, FramesLaid}
 
 -- ---- a tally that a Section may begin with

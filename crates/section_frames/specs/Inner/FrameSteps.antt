@@ -4,11 +4,12 @@ use mathlib.Core.Path.{_≡_}
 use mathlib.Core.List.{List, _++_}
 use Prim.Native.Nat.{ℕ, _+_, _≤_, _<_}
 use lib.ListN.{length, getD}
-use Rattle.merging.specs.Rule.{header}
+use Rattle.merging.specs.Rule.{syncHeaderBits}
 use Rattle.merging.specs.Automaton.{StateOf, headed}
 use Rattle.words.specs.Symbols.{symbols}
 use Rattle.traces.specs.Traces.{Within}
-use Rattle.section_state.specs.Carried.{sectionBits, farthest}
+use Rattle.section_state.specs.Carried.{sectionBits}
+use Rattle.section_state.specs.Tallies.{farthest}
 use Rattle.section_frames.specs.declared.frame.Writing.{Writing}
 use Rattle.section_frames.specs.Inner.BufferBits.{inked, penPlace, Held}
 use Rattle.section_frames.specs.Frames.{noted}
@@ -26,7 +27,7 @@ SymbolsFound frames control f n rs = (i : ℕ) → i < n → SymbolFound frames 
 
 -- a Sync Header may follow these bits
 abbrev pub Opens : List ℕ → Type 0
-Opens bits = StateOf (bits ++ header) headed
+Opens bits = StateOf (bits ++ syncHeaderBits) headed
 
 -- between two frames: the pen is at rest, a Sync Header may follow, and no count is greater than a writer's may be
 pub record Resting (out : List ℕ) (w : Writing) : Type 0 where

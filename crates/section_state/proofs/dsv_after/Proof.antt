@@ -7,8 +7,8 @@ use mir.Syntax.{w64}
 use mir.Val.{SFits, toZ, ofZ}
 use mir.ValLaws.{toZ-ofZ}
 use borrow.Author.Tests.{lt-ltb, le-ltb}
-use Rattle.section_state.specs.Carried.{dsvThen}
-use Rattle.section_state.specs.Carried.Range.{dsv-small}
+use Rattle.section_state.specs.Tallies.{dsvThen}
+use Rattle.section_state.specs.Tallies.Range.{dsv-small}
 use Rattle.section_state.proofs.Signs.{sub-fits}
 use borrow.Author.Needs.{needs}
 use Rattle.section_state.proofs.dsv_after.Statement.{statement}

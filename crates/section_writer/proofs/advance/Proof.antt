@@ -9,7 +9,7 @@ use mir.Val.{toZ, ofZ}
 use mir.ValLaws.{toZ-ofZ}
 use Rattle.section_state.proofs.Signs.{sub-fits, then-fits}
 use Rattle.section_state.specs.Carried.{levelThen}
-use Rattle.section_state.specs.Carried.Range.{dsv-small}
+use Rattle.section_state.specs.Tallies.Range.{dsv-small}
 use borrow.Author.Needs.{needs}
 use Rattle.section_writer.proofs.advance.Statement.{statement}
 use Rattle.section_writer.proofs.advance.Tie as tie

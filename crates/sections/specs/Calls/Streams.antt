@@ -10,11 +10,10 @@ use Rattle.outcome.specs.Say.{done, demand, leaves}
 use Rattle.calls.specs.Step.{Step, step, isDone, handedBack}
 use Rattle.calls.specs.Step.Kept.{refused-keeps}
 use Rattle.calls.specs.Calls.{run, doneOf, accepted}
-use Rattle.calls.specs.Calls.Refused.{done-alike}
 use Rattle.bits.specs.Bits.{pack, unpack}
 use Rattle.bits.specs.Bits.Packed.{unpack-append}
 use Rattle.words.specs.RunRule.{runs}
-use Rattle.merging.specs.Rule.{header, starts}
+use Rattle.merging.specs.Rule.{syncHeaderBits, starts}
 use Rattle.section_state.specs.Carried.{mostSections}
 use Rattle.section_writer.specs.declared.SectionWriter.{SectionWriter}
 use Rattle.section_writer.specs.State.{right}
@@ -46,10 +45,6 @@ when-done s c e = go (eqb (length (c .part .frames)) 3136 && eqb (length (c .par
 pub refused-stays : (s : SectionWriter) (c : Call) → isDone (writes s c .say) ≡ false → writes s c .next ≡ s
 unfolding written
 refused-stays s c e = refused-keeps (writeSay s (c .part .frames) (c .part .control) (c .out)) (afterSection s (section s (c .part .frames) (c .part .control))) s e
-
--- so the calls of a run that are done answer as if the refused ones had not been made
-pub refused-left-out : (cs : List Call) (s : SectionWriter) → doneOf (run writes s cs) ≡ run writes s (accepted writes s cs)
-refused-left-out cs s = done-alike writes refused-stays cs s
 
 -- a call that is done makes the writer's next Section
 pub made : (s : SectionWriter) (c : Call) → writes s c .say ≡ done []
@@ -95,7 +90,7 @@ module _ (s : SectionWriter) (cs : List Call) where
 
   -- and have their Sync Headers exactly at the multiples of 588 bits
   pub calls-place-headers : (i : ℕ) → i < length (unpack (outgoing (doneOf (run writes s cs))))
-      → starts header (drop i (unpack (outgoing (doneOf (run writes s cs))))) ≡ eqb (i % 588) 0
+      → starts syncHeaderBits (drop i (unpack (outgoing (doneOf (run writes s cs))))) ≡ eqb (i % 588) 0
   calls-place-headers i =
-      subst (λ (bs : List ℕ). i < length bs → starts header (drop i bs) ≡ eqb (i % 588) 0) (sym bytes-are-stream)
+      subst (λ (bs : List ℕ). i < length bs → starts syncHeaderBits (drop i bs) ≡ eqb (i % 588) 0) (sym bytes-are-stream)
       (headers-at s (parts (accepted writes s cs)) i)

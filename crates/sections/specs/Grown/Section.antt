@@ -9,9 +9,10 @@ use Rattle.outcome.specs.Table.{tabulated}
 use Rattle.bits.specs.Bits.{bitsOf}
 use Rattle.bits.specs.Bits.Numbers.{length-bits}
 use Rattle.bits.specs.Binary.Parts.{binary-append, binary-bits}
+use Rattle.words.specs.Words.{syncHeader}
 use Rattle.merging.specs.Chosen.{SoFar, after, dsvAfter, beforeWord, beforeHeader, withWord, withHeader, withTail}
 use Rattle.merging.specs.Dsv.{levelAfter, ups, downs}
-use Rattle.merging.specs.Rule.{header, allowed}
+use Rattle.merging.specs.Rule.{syncHeaderBits, allowed}
 use Rattle.merging.specs.Dsv.Levels.{level-append, ups-append, downs-append}
 use Rattle.section_state.specs.Carried.{sectionBits}
 use Rattle.section_writer.specs.declared.SectionWriter.{SectionWriter}
@@ -64,9 +65,9 @@ pub grown-tail : (w : SoFar) → Grown 3 w (withTail w)
 unfolding withTail
 grown-tail w =
     record {
-      bits = beforeHeader (allowed (w .bits) header) (dsvAfter (w .level) (w .plus) (w .minus) header);
-      long = header-three (allowed (w .bits) header) (dsvAfter (w .level) (w .plus) (w .minus) header);
-      binary = header-binary (allowed (w .bits) header) (dsvAfter (w .level) (w .plus) (w .minus) header);
+      bits = beforeHeader (allowed (w .bits) syncHeaderBits) (dsvAfter (w .level) (w .plus) (w .minus) syncHeaderBits);
+      long = header-three (allowed (w .bits) syncHeaderBits) (dsvAfter (w .level) (w .plus) (w .minus) syncHeaderBits);
+      binary = header-binary (allowed (w .bits) syncHeaderBits) (dsvAfter (w .level) (w .plus) (w .minus) syncHeaderBits);
       is = refl;
     }
 
@@ -81,7 +82,7 @@ grown-words (x ∷ ws) w =
 -- a Sync Header
 pub grown-header : (w : SoFar) → Grown 24 w (withHeader w)
 unfolding withHeader
-grown-header w = record { bits = header; long = refl; binary = binary-bits 24 0b100000000001000000000010; is = refl }
+grown-header w = record { bits = syncHeaderBits; long = refl; binary = binary-bits 24 syncHeader; is = refl }
 
 -- a Channel Frame
 pub grown-frame : (w : SoFar) (frames control : List ℕ) (f : ℕ) → Grown 588 w (withFrame w (frameWords frames control f))

@@ -11,6 +11,7 @@ use lib.ListN.{length}
 use Rattle.outcome.specs.Bytes.{Bytes}
 use Rattle.outcome.specs.Table.{tabulated}
 use Rattle.outcome.specs.Table.Entries.{tabulated-at}
+use Rattle.words.specs.Words.{syncHeader}
 use Rattle.words.specs.Words.Facts.{word-14}
 use Rattle.merging.specs.Chosen.{SoFar, withHeader, withTail}
 use Rattle.section_writer.specs.declared.SectionWriter.{SectionWriter}
@@ -46,7 +47,7 @@ module _ (frames control : List ℕ) (hf : Bytes frames) (hc : Bytes control) wh
       let lv : length (v .bits) ≡ length (h .bits) + 17 * 33 = grown-long (grown-words ws h) in
       record {
         head = keep (grown-tail v) (length (w .bits)) 24 (omega arith) ∙ keep (grown-words ws h) (length (w .bits)) 24 (omega arith)
-            ∙ field-last (w .bits) [] 24 8392706 (length (w .bits)) (none (length (w .bits))) (omega arith);
+            ∙ field-last (w .bits) [] 24 syncHeader (length (w .bits)) (none (length (w .bits))) (omega arith);
         words = λ i j.
             let e : length (w .bits) + (27 + 17 * i) ≡ length (h .bits) + (17 * i + 3) = omega arith in
             ap (λ (p : ℕ). fieldAt (withTail v .bits) p 14) e
@@ -89,7 +90,7 @@ module _ (frames control : List ℕ) (hf : Bytes frames) (hc : Bytes control) wh
 
     -- every frame begins with the Sync Header
     pub every-header : (f : ℕ) → f < 98 → headless (section s frames control .bits) f ≡ false
-    every-header f h = ap not (eq-eqb (fieldAt (section s frames control .bits) (588 * f) 24) 8392706 (in-section f h .head))
+    every-header f h = ap not (eq-eqb (fieldAt (section s frames control .bits) (588 * f) 24) syncHeader (in-section f h .head))
 
     -- every word is read as it was written
     pub every-word : (f i : ℕ) → f < 98 → i < 33 → wordRead (section s frames control .bits) f i ≡ wordAt frames control f i

@@ -17,7 +17,7 @@ use Rattle.merging.specs.Chosen.{SoFar, after, dsvAfter, beforeHeader, withWord
 use Rattle.merging.specs.Places.{Placed}
 use Rattle.merging.specs.Places.Kept.{placed-header, placed-whole}
 use Rattle.merging.specs.Ready.{ready}
-use Rattle.merging.specs.Rule.{header, allowed}
+use Rattle.merging.specs.Rule.{syncHeaderBits, allowed}
 use Rattle.merging.specs.Ready.Taken.{header-taken}
 use Rattle.merging.specs.Automaton.Speaks.{state-header}
 use Rattle.merging.specs.Automaton.Steps.{steps-append, live-first}
@@ -44,18 +44,18 @@ module _ (frames control : List ℕ) (hf : Bytes frames) (hc : Bytes control) wh
   run-header old w o =
       record {
         own = o .own;
-        in-state = subst (λ (l : List ℕ). StateOf l headed) (append-assoc old (w .bits) header) (o .all .in-state);
-        places = subst (λ (l : List ℕ). Placed l headed 564) (append-assoc old (w .bits) header) (o .all .placed-then);
+        in-state = subst (λ (l : List ℕ). StateOf l headed) (append-assoc old (w .bits) syncHeaderBits) (o .all .in-state);
+        places = subst (λ (l : List ℕ). Placed l headed 564) (append-assoc old (w .bits) syncHeaderBits) (o .all .placed-then);
         at-ease = tt;
       }
 
   run-tail : (old : List ℕ) (w : SoFar) (s : ℕ) → Running old w s 3 → Opening old (withTail w)
   unfolding withTail
   run-tail old w s r =
-      let dsv = dsvAfter (w .level) (w .plus) (w .minus) header in
+      let dsv = dsvAfter (w .level) (w .plus) (w .minus) syncHeaderBits in
       let k = header-taken s (r .at-ease) in
       let m = beforeHeader (passes s start22) dsv in
-      let e : beforeHeader (allowed (w .bits) header) dsv ≡ m = header-agrees s k dsv (w .bits) (r .own) in
+      let e : beforeHeader (allowed (w .bits) syncHeaderBits) dsv ≡ m = header-agrees s k dsv (w .bits) (r .own) in
       let t : T (live (steps (steps s m) start22)) = subst (λ (x : ℕ). T (live x)) (steps-append s m start22) (header-passes s k dsv) in
       let u = live-first (steps s m) start22 t in
       let b : Binary m = header-binary (passes s start22) dsv in

@@ -7,7 +7,7 @@ use Prim.Native.Nat.{ℕ, zero, suc}
 use Rattle.bits.specs.Bits.{bitsOf}
 use Rattle.merging.specs.Chosen.{SoFar, withWord, withHeader, withTail}
 use Rattle.merging.specs.Chosen.Behind.{Begun, behind, begun-header, begun-word, begun-tail, word-behind, header-behind, tail-behind}
-use Rattle.merging.specs.Rule.{header}
+use Rattle.merging.specs.Rule.{syncHeaderBits}
 use Rattle.merging.specs.Automaton.{headed, StateOf}
 use Rattle.section_writer.specs.declared.SectionWriter.{SectionWriter}
 use Rattle.section_frames.specs.Section.{frameWords, withWords, withFrame, withFrames, sectionAfter}
@@ -29,7 +29,7 @@ begun-frame w ws b = begun-header (withFrame w ws) (inr (begun-tail (withWords (
 
 -- ---- behind the bits `old` the same is written
 
-module _ (old : List ℕ) (follows : StateOf (old ++ header) headed) where
+module _ (old : List ℕ) (follows : StateOf (old ++ syncHeaderBits) headed) where
   words-behind : (ws : List ℕ) (w : SoFar) → Begun w → withWords (behind old w) ws ≡ behind old (withWords w ws)
   unfolding withWords
   words-behind [] w b = refl

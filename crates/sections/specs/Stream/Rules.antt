@@ -14,7 +14,7 @@ use Rattle.outcome.specs.Table.Entries.{and-left, and-right, of-true, true-of}
 use Rattle.words.specs.RunRule.{runs}
 use Rattle.merging.specs.Places.{placed}
 use Rattle.merging.specs.Places.Kept.{placed-first}
-use Rattle.merging.specs.Rule.{header, starts}
+use Rattle.merging.specs.Rule.{syncHeaderBits, starts}
 use Rattle.merging.specs.Automaton.Speaks.{state-first}
 use Rattle.section_writer.specs.declared.SectionWriter.{SectionWriter}
 use Rattle.section_frames.specs.Section.{sectionAfter}
@@ -62,21 +62,21 @@ one-less : (i c : ℕ) → c < 588 → i + (588 - c) ≡ suc i + (588 - suc c)
 one-less i c h = omega arith
 
 -- a Sync Header begins at bit i exactly if the count says so
-pub starts-at : (bs : List ℕ) (c i : ℕ) → T (placed c bs) → c < 588 → i < length bs → starts header (drop i bs) ≡ eqb ((i + (588 - c)) % 588) 0
+pub starts-at : (bs : List ℕ) (c i : ℕ) → T (placed c bs) → c < 588 → i < length bs → starts syncHeaderBits (drop i bs) ≡ eqb ((i + (588 - c)) % 588) 0
 unfolding placed
 starts-at [] c i t h l = absurd (not-suc-le-zero l)
-starts-at (b ∷ bs) zero zero t h l = true-of (starts header (b ∷ bs)) (and-left (starts header (b ∷ bs)) (placed 587 bs) t)
+starts-at (b ∷ bs) zero zero t h l = true-of (starts syncHeaderBits (b ∷ bs)) (and-left (starts syncHeaderBits (b ∷ bs)) (placed 587 bs) t)
 starts-at (b ∷ bs) (suc c) zero t h l =
-    not-of (starts header (b ∷ bs)) (and-left (not (starts header (b ∷ bs))) (placed c bs) t) ∙ sym (no-place 0 c h)
+    not-of (starts syncHeaderBits (b ∷ bs)) (and-left (not (starts syncHeaderBits (b ∷ bs))) (placed c bs) t) ∙ sym (no-place 0 c h)
 starts-at (b ∷ bs) zero (suc i) t h l =
     let e : (i + (588 - 587)) % 588 ≡ (suc i + (588 - 0)) % 588 = omega arith in
-    starts-at bs 587 i (and-right (starts header (b ∷ bs)) (placed 587 bs) t) (omega arith) (le-of-suc-le-suc l) ∙ ap (λ (n : ℕ). eqb n 0) e
+    starts-at bs 587 i (and-right (starts syncHeaderBits (b ∷ bs)) (placed 587 bs) t) (omega arith) (le-of-suc-le-suc l) ∙ ap (λ (n : ℕ). eqb n 0) e
 starts-at (b ∷ bs) (suc c) (suc i) t h l =
     let e : (i + (588 - c)) % 588 ≡ (suc i + (588 - suc c)) % 588 = ap (λ (n : ℕ). n % 588) (one-less i c (omega arith)) in
-    starts-at bs c i (and-right (not (starts header (b ∷ bs))) (placed c bs) t) (omega arith) (le-of-suc-le-suc l) ∙ ap (λ (n : ℕ). eqb n 0) e
+    starts-at bs c i (and-right (not (starts syncHeaderBits (b ∷ bs))) (placed c bs) t) (omega arith) (le-of-suc-le-suc l) ∙ ap (λ (n : ℕ). eqb n 0) e
 
 -- SYNC HEADERS exactly at the multiples of 588 bits
-pub headers-at : (s : SectionWriter) (ps : List Part) (i : ℕ) → i < length (streamOf s ps) → starts header (drop i (streamOf s ps)) ≡ eqb (i % 588) 0
+pub headers-at : (s : SectionWriter) (ps : List Part) (i : ℕ) → i < length (streamOf s ps) → starts syncHeaderBits (drop i (streamOf s ps)) ≡ eqb (i % 588) 0
 headers-at s ps i h =
     let e : (i + (588 - 0)) % 588 ≡ i % 588 = omega arith in
     starts-at (streamOf s ps) 0 i (of-true (placed 0 (streamOf s ps)) (all-sections [] s ps opens-none .placed-so-far)) (omega arith) h ∙ ap (λ (n : ℕ). eqb n 0) e

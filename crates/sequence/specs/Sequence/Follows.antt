@@ -6,7 +6,7 @@ use mathlib.Core.Logic.{_⊎_, inl, inr}
 use Prim.Native.Nat.{ℕ, zero, suc, _+_, _-_, _*_, _%_, _^_, _≤_, _<_}
 use native.Mathlib.Nat.{add-zero, zero-add, suc-add, add-suc, pow-suc}
 use native.Mathlib.Omega.{arith}
-use lib.ListN.{length, getD, drop, take, getD-replicate, length-append, length-drop, List·getD-append, List·getD-eq-default}
+use lib.ListN.{length, getD, drop, getD-replicate, length-append, length-drop, List·getD-append, List·getD-eq-default}
 use lib.Seq.{getD-drop, getD-at}
 use Rattle.outcome.specs.Bytes.{Bytes}
 use Rattle.outcome.specs.Table.{tabulated}
@@ -134,8 +134,3 @@ bytes-sequence i = by (lt-or-le i 2340)
     by : (i < 2340) ⊎ (2340 ≤ i) → getD sequence i 0 < 256
     by (inl l) = omega (arith, sequence-at i l, of-bits-lt 8 (8 * i))
     by (inr l) = omega (arith, List·getD-eq-default sequence 0 {n = i} (omega (arith, length-sequence)))
-
--- document 01's figure: the sequence starts 01 80 00 60 00 28 00 1E
-pub sequence-starts : take 8 sequence ≡ 0x01 ∷ (0x80 ∷ (0x00 ∷ (0x60 ∷ (0x00 ∷ (0x28 ∷ (0x00 ∷ (0x1E ∷ [])))))))
-unfolding sequence bit register next
-sequence-starts = refl

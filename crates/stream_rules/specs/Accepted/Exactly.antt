@@ -14,7 +14,7 @@ use Rattle.outcome.specs.Table.Entries.{and-left, and-right, of-true, true-of}
 use Rattle.bits.specs.Bits.{unpack}
 use Rattle.bits.specs.Bits.Packed.{length-unpack}
 use Rattle.bits.specs.Binary.{Binary}
-use Rattle.merging.specs.Rule.{header, starts}
+use Rattle.merging.specs.Rule.{syncHeaderBits, starts}
 use Rattle.fields.specs.Fields.{fieldAt}
 use Rattle.channel_frame.specs.ChannelFrame.{wordRead}
 use Rattle.stream_rules.specs.Offences.{headerOffends, rightWord, wordPlace, wordOffends}
@@ -68,26 +68,26 @@ module _ (B : List ℕ) where
           ap not (ap (λ (k : ℕ). rightWord (p / 588 % 98) ((p % 588 - 27) / 17) (fieldAt B k 14)) (sym (q .1)) ∙ w (p / 588) ((p % 588 - 27) / 17) (omega (arith, q .1)) (q .0))
 
 module _ (bs : List ℕ) (n : ℕ) (b : Binary bs) (long : length bs ≡ 57624 * n) where
-  all : length (bs ++ header) ≡ 57624 * n + 24
-  all = omega (arith, length-append bs header)
+  all : length (bs ++ syncHeaderBits) ≡ 57624 * n + 24
+  all = omega (arith, length-append bs syncHeaderBits)
 
-  kept-clean : Kept (bs ++ header) n → (p : ℕ) → p < length (bs ++ header) → NoOffence (bs ++ header) p
+  kept-clean : Kept (bs ++ syncHeaderBits) n → (p : ℕ) → p < length (bs ++ syncHeaderBits) → NoOffence (bs ++ syncHeaderBits) p
   unfolding headerOffends
   kept-clean k p h =
       record {
         run = clean-if-runs bs b (k .runs-are) p;
-        head = right-head (eqb (p % 588) 0) (starts header (drop p (bs ++ header))) (k .headers-are p h);
-        word = word-clean (bs ++ header) (98 * n) p (omega (arith, all)) (k .words-are);
+        head = right-head (eqb (p % 588) 0) (starts syncHeaderBits (drop p (bs ++ syncHeaderBits))) (k .headers-are p h);
+        word = word-clean (bs ++ syncHeaderBits) (98 * n) p (omega (arith, all)) (k .words-are);
       }
 
-  clean-kept : ((p : ℕ) → p < length (bs ++ header) → NoOffence (bs ++ header) p) → Kept (bs ++ header) n
+  clean-kept : ((p : ℕ) → p < length (bs ++ syncHeaderBits) → NoOffence (bs ++ syncHeaderBits) p) → Kept (bs ++ syncHeaderBits) n
   unfolding headerOffends
   clean-kept c =
       record {
         runs-are = runs-if-clean bs b (λ p h. c p (omega (arith, all)) .run);
-        headers-are = λ p h. head-right (eqb (p % 588) 0) (starts header (drop p (bs ++ header))) (c p h .head);
+        headers-are = λ p h. head-right (eqb (p % 588) 0) (starts syncHeaderBits (drop p (bs ++ syncHeaderBits))) (c p h .head);
         words-are = λ f i hf hi.
-            not-false (rightWord (f % 98) i (wordRead (bs ++ header) f i)) (sym (word-there (bs ++ header) f i hi) ∙ c (588 * f + 27 + 17 * i) (omega (arith, all)) .word);
+            not-false (rightWord (f % 98) i (wordRead (bs ++ syncHeaderBits) f i)) (sym (word-there (bs ++ syncHeaderBits) f i hi) ∙ c (588 * f + 27 + 17 * i) (omega (arith, all)) .word);
       }
 
 -- the bits of whole Sections

@@ -13,7 +13,8 @@ use Rattle.bits.specs.Bits.{number}
 use Rattle.bits.specs.Bits.Numbers.{number-shift, number-lt}
 use Rattle.bits.specs.Binary.{Binary}
 use Rattle.bits.specs.Binary.Parts.{binary-take, binary-drop, binary-bits}
-use Rattle.merging.specs.Rule.{header, starts}
+use Rattle.words.specs.Words.{syncHeader}
+use Rattle.merging.specs.Rule.{syncHeaderBits, starts}
 use Rattle.merging.specs.Rule.Headers.{eqb-plus}
 use Rattle.fields.specs.Fields.{fieldAt}
 
@@ -49,6 +50,6 @@ starts-number (a ∷ ps) (b ∷ bs) p q h =
     ∙ ap₂ eqb (sym e) (sym (first-bit a ps))
 
 -- a Sync Header
-pub header-number : (B : List ℕ) → Binary B → (p : ℕ) → p + 24 ≤ length B → starts header (drop p B) ≡ eqb (fieldAt B p 24) 0b100000000001000000000010
+pub header-number : (B : List ℕ) → Binary B → (p : ℕ) → p + 24 ≤ length B → starts syncHeaderBits (drop p B) ≡ eqb (fieldAt B p 24) syncHeader
 header-number B b p h =
-    starts-number header (drop p B) (binary-bits 24 0b100000000001000000000010) (binary-drop p B b) (omega (arith, length-drop p B))
+    starts-number syncHeaderBits (drop p B) (binary-bits 24 syncHeader) (binary-drop p B b) (omega (arith, length-drop p B))

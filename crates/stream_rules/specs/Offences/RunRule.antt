@@ -14,7 +14,7 @@ use Rattle.outcome.specs.First.Found.{lt-or-le}
 use Rattle.outcome.specs.Table.Entries.{and-left, and-right, of-true, true-of}
 use Rattle.bits.specs.Binary.{Binary}
 use Rattle.words.specs.RunRule.{runs}
-use Rattle.merging.specs.Rule.{header, starts}
+use Rattle.merging.specs.Rule.{syncHeaderBits, starts}
 use Rattle.stream_rules.specs.Offences.{back, runOffends}
 use Rattle.stream_rules.specs.Offences.Runs.{near, close, far, wrong, clear, clear-runs}
 
@@ -43,78 +43,78 @@ back-none n ps B q e =
     ap (λ (k : ℕ). starts ps (drop k B)) (sym m) ∙ and-rest (leb n (q + n)) (starts ps (drop (q + n - n) B)) (le-leb n (q + n) (omega arith)) e
 
 -- what stands before a Sync Header cannot reach far into it
-pub close-short : (c : List ℕ) → length c < 2 → close (c ++ header) ≡ false
+pub close-short : (c : List ℕ) → length c < 2 → close (c ++ syncHeaderBits) ≡ false
 close-short [] h = refl
 close-short (x ∷ []) h = and-none-right (eqb 1 x) false refl
 close-short (x ∷ y ∷ c) h = absurd (omega arith)
 
-zeros-stop : (k : ℕ) (c : List ℕ) → length c < k → starts (replicate k 0) (c ++ header) ≡ false
+zeros-stop : (k : ℕ) (c : List ℕ) → length c < k → starts (replicate k 0) (c ++ syncHeaderBits) ≡ false
 zeros-stop zero c h = absurd (omega arith)
 zeros-stop (suc k) [] h = refl
-zeros-stop (suc k) (x ∷ c) h = and-none-right (eqb 0 x) (starts (replicate k 0) (c ++ header)) (zeros-stop k c (omega arith))
+zeros-stop (suc k) (x ∷ c) h = and-none-right (eqb 0 x) (starts (replicate k 0) (c ++ syncHeaderBits)) (zeros-stop k c (omega arith))
 
-pub far-short : (c : List ℕ) → length c < 11 → far (c ++ header) ≡ false
+pub far-short : (c : List ℕ) → length c < 11 → far (c ++ syncHeaderBits) ≡ false
 far-short [] h = refl
-far-short (x ∷ c) h = and-none-right (eqb 1 x) (starts (replicate 11 0) (c ++ header)) (zeros-stop 11 c (omega arith))
+far-short (x ∷ c) h = and-none-right (eqb 1 x) (starts (replicate 11 0) (c ++ syncHeaderBits)) (zeros-stop 11 c (omega arith))
 
-module _ (bs : List ℕ) (clean : (p : ℕ) → p ≤ length bs → runOffends (bs ++ header) p ≡ false) where
-  all-near : (p : ℕ) → p ≤ length bs → back 1 (1 ∷ 1 ∷ []) (bs ++ header) p ≡ false
+module _ (bs : List ℕ) (clean : (p : ℕ) → p ≤ length bs → runOffends (bs ++ syncHeaderBits) p ≡ false) where
+  all-near : (p : ℕ) → p ≤ length bs → back 1 (1 ∷ 1 ∷ []) (bs ++ syncHeaderBits) p ≡ false
   unfolding runOffends
-  all-near p h = or-left (back 1 (1 ∷ 1 ∷ []) (bs ++ header) p) (back 2 (1 ∷ 0 ∷ 1 ∷ []) (bs ++ header) p || back 11 (1 ∷ replicate 11 0) (bs ++ header) p) (clean p h)
+  all-near p h = or-left (back 1 (1 ∷ 1 ∷ []) (bs ++ syncHeaderBits) p) (back 2 (1 ∷ 0 ∷ 1 ∷ []) (bs ++ syncHeaderBits) p || back 11 (1 ∷ replicate 11 0) (bs ++ syncHeaderBits) p) (clean p h)
 
-  later : (p : ℕ) → p ≤ length bs → (back 2 (1 ∷ 0 ∷ 1 ∷ []) (bs ++ header) p || back 11 (1 ∷ replicate 11 0) (bs ++ header) p) ≡ false
+  later : (p : ℕ) → p ≤ length bs → (back 2 (1 ∷ 0 ∷ 1 ∷ []) (bs ++ syncHeaderBits) p || back 11 (1 ∷ replicate 11 0) (bs ++ syncHeaderBits) p) ≡ false
   unfolding runOffends
-  later p h = or-right (back 1 (1 ∷ 1 ∷ []) (bs ++ header) p) (back 2 (1 ∷ 0 ∷ 1 ∷ []) (bs ++ header) p || back 11 (1 ∷ replicate 11 0) (bs ++ header) p) (clean p h)
+  later p h = or-right (back 1 (1 ∷ 1 ∷ []) (bs ++ syncHeaderBits) p) (back 2 (1 ∷ 0 ∷ 1 ∷ []) (bs ++ syncHeaderBits) p || back 11 (1 ∷ replicate 11 0) (bs ++ syncHeaderBits) p) (clean p h)
 
-  all-close : (p : ℕ) → p ≤ length bs → back 2 (1 ∷ 0 ∷ 1 ∷ []) (bs ++ header) p ≡ false
-  all-close p h = or-left (back 2 (1 ∷ 0 ∷ 1 ∷ []) (bs ++ header) p) (back 11 (1 ∷ replicate 11 0) (bs ++ header) p) (later p h)
+  all-close : (p : ℕ) → p ≤ length bs → back 2 (1 ∷ 0 ∷ 1 ∷ []) (bs ++ syncHeaderBits) p ≡ false
+  all-close p h = or-left (back 2 (1 ∷ 0 ∷ 1 ∷ []) (bs ++ syncHeaderBits) p) (back 11 (1 ∷ replicate 11 0) (bs ++ syncHeaderBits) p) (later p h)
 
-  all-far : (p : ℕ) → p ≤ length bs → back 11 (1 ∷ replicate 11 0) (bs ++ header) p ≡ false
-  all-far p h = or-right (back 2 (1 ∷ 0 ∷ 1 ∷ []) (bs ++ header) p) (back 11 (1 ∷ replicate 11 0) (bs ++ header) p) (later p h)
+  all-far : (p : ℕ) → p ≤ length bs → back 11 (1 ∷ replicate 11 0) (bs ++ syncHeaderBits) p ≡ false
+  all-far p h = or-right (back 2 (1 ∷ 0 ∷ 1 ∷ []) (bs ++ syncHeaderBits) p) (back 11 (1 ∷ replicate 11 0) (bs ++ syncHeaderBits) p) (later p h)
 
-  none-near : (q : ℕ) → q ≤ length bs → near (drop q (bs ++ header)) ≡ false
+  none-near : (q : ℕ) → q ≤ length bs → near (drop q (bs ++ syncHeaderBits)) ≡ false
   none-near q h = go (lt-or-le (length bs) (q + 1))
     where
-      go : (length bs < q + 1) ⊎ (q + 1 ≤ length bs) → near (drop q (bs ++ header)) ≡ false
+      go : (length bs < q + 1) ⊎ (q + 1 ≤ length bs) → near (drop q (bs ++ syncHeaderBits)) ≡ false
       go (inl l) =
           let e : length bs ≡ q = omega arith in
-          ap near (drop-at bs header q e)
-      go (inr l) = back-none 1 (1 ∷ 1 ∷ []) (bs ++ header) q (all-near (q + 1) l)
+          ap near (drop-at bs syncHeaderBits q e)
+      go (inr l) = back-none 1 (1 ∷ 1 ∷ []) (bs ++ syncHeaderBits) q (all-near (q + 1) l)
 
-  none-close : (q : ℕ) → q ≤ length bs → close (drop q (bs ++ header)) ≡ false
+  none-close : (q : ℕ) → q ≤ length bs → close (drop q (bs ++ syncHeaderBits)) ≡ false
   none-close q h = go (lt-or-le (length bs) (q + 2))
     where
-      go : (length bs < q + 2) ⊎ (q + 2 ≤ length bs) → close (drop q (bs ++ header)) ≡ false
-      go (inl l) = ap close (drop-append-le q bs header h) ∙ close-short (drop q bs) (omega (arith, length-drop q bs))
-      go (inr l) = back-none 2 (1 ∷ 0 ∷ 1 ∷ []) (bs ++ header) q (all-close (q + 2) l)
+      go : (length bs < q + 2) ⊎ (q + 2 ≤ length bs) → close (drop q (bs ++ syncHeaderBits)) ≡ false
+      go (inl l) = ap close (drop-append-le q bs syncHeaderBits h) ∙ close-short (drop q bs) (omega (arith, length-drop q bs))
+      go (inr l) = back-none 2 (1 ∷ 0 ∷ 1 ∷ []) (bs ++ syncHeaderBits) q (all-close (q + 2) l)
 
-  none-far : (q : ℕ) → q ≤ length bs → far (drop q (bs ++ header)) ≡ false
+  none-far : (q : ℕ) → q ≤ length bs → far (drop q (bs ++ syncHeaderBits)) ≡ false
   none-far q h = go (lt-or-le (length bs) (q + 11))
     where
-      go : (length bs < q + 11) ⊎ (q + 11 ≤ length bs) → far (drop q (bs ++ header)) ≡ false
-      go (inl l) = ap far (drop-append-le q bs header h) ∙ far-short (drop q bs) (omega (arith, length-drop q bs))
-      go (inr l) = back-none 11 (1 ∷ replicate 11 0) (bs ++ header) q (all-far (q + 11) l)
+      go : (length bs < q + 11) ⊎ (q + 11 ≤ length bs) → far (drop q (bs ++ syncHeaderBits)) ≡ false
+      go (inl l) = ap far (drop-append-le q bs syncHeaderBits h) ∙ far-short (drop q bs) (omega (arith, length-drop q bs))
+      go (inr l) = back-none 11 (1 ∷ replicate 11 0) (bs ++ syncHeaderBits) q (all-far (q + 11) l)
 
-  none-wrong : (q : ℕ) → q ≤ length bs → wrong (drop q (bs ++ header)) ≡ false
+  none-wrong : (q : ℕ) → q ≤ length bs → wrong (drop q (bs ++ syncHeaderBits)) ≡ false
   unfolding wrong
   none-wrong q h =
-      or-none (near (drop q (bs ++ header))) (close (drop q (bs ++ header)) || far (drop q (bs ++ header))) (none-near q h)
-      (or-none (close (drop q (bs ++ header))) (far (drop q (bs ++ header))) (none-close q h) (none-far q h))
+      or-none (near (drop q (bs ++ syncHeaderBits))) (close (drop q (bs ++ syncHeaderBits)) || far (drop q (bs ++ syncHeaderBits))) (none-near q h)
+      (or-none (close (drop q (bs ++ syncHeaderBits))) (far (drop q (bs ++ syncHeaderBits))) (none-close q h) (none-far q h))
 
 not-and : (a b : Bool) → a ≡ false → b ≡ true → (not a && b) ≡ true
 not-and a b p q = rw (p, q)
 
-pub clear-header : clear header ≡ true
+pub clear-header : clear syncHeaderBits ≡ true
 unfolding clear wrong
 clear-header = refl
 
-clear-from : (bs : List ℕ) → ((q : ℕ) → q ≤ length bs → wrong (drop q (bs ++ header)) ≡ false) → clear (bs ++ header) ≡ true
+clear-from : (bs : List ℕ) → ((q : ℕ) → q ≤ length bs → wrong (drop q (bs ++ syncHeaderBits)) ≡ false) → clear (bs ++ syncHeaderBits) ≡ true
 unfolding clear
 clear-from [] g = clear-header
-clear-from (b ∷ bs) g = not-and (wrong (b ∷ (bs ++ header))) (clear (bs ++ header)) (g 0 (omega arith)) (clear-from bs (λ q h. g (suc q) (suc-le-suc h)))
+clear-from (b ∷ bs) g = not-and (wrong (b ∷ (bs ++ syncHeaderBits))) (clear (bs ++ syncHeaderBits)) (g 0 (omega arith)) (clear-from bs (λ q h. g (suc q) (suc-le-suc h)))
 
 -- no offence 25 up to the Sync Header at the end: the run rule holds throughout
-pub runs-if-clean : (bs : List ℕ) → Binary bs → ((p : ℕ) → p ≤ length bs → runOffends (bs ++ header) p ≡ false) → runs (bs ++ header) ≡ true
+pub runs-if-clean : (bs : List ℕ) → Binary bs → ((p : ℕ) → p ≤ length bs → runOffends (bs ++ syncHeaderBits) p ≡ false) → runs (bs ++ syncHeaderBits) ≡ true
 runs-if-clean bs b clean = sym (clear-runs bs b) ∙ clear-from bs (none-wrong bs clean)
 
 -- ---- and back
@@ -129,10 +129,10 @@ clear-at [] c q = ap wrong (drop-nil q) ∙ wrong-none
 clear-at (b ∷ bs) c zero = not-true (wrong (b ∷ bs)) (true-of (not (wrong (b ∷ bs))) (and-left (not (wrong (b ∷ bs))) (clear bs) c))
 clear-at (b ∷ bs) c (suc q) = clear-at bs (and-right (not (wrong (b ∷ bs))) (clear bs) c) q
 
-pub clean-if-runs : (bs : List ℕ) → Binary bs → runs (bs ++ header) ≡ true → (p : ℕ) → runOffends (bs ++ header) p ≡ false
+pub clean-if-runs : (bs : List ℕ) → Binary bs → runs (bs ++ syncHeaderBits) ≡ true → (p : ℕ) → runOffends (bs ++ syncHeaderBits) p ≡ false
 unfolding runOffends wrong
 clean-if-runs bs b r p =
-    let B = bs ++ header in
+    let B = bs ++ syncHeaderBits in
     let at : (q : ℕ) → wrong (drop q B) ≡ false = clear-at B (of-true (clear B) (clear-runs bs b ∙ r)) in
     let n : near (drop (p - 1) B) ≡ false = or-left (near (drop (p - 1) B)) (close (drop (p - 1) B) || far (drop (p - 1) B)) (at (p - 1)) in
     let c : close (drop (p - 2) B) ≡ false = or-left (close (drop (p - 2) B)) (far (drop (p - 2) B)) (or-right (near (drop (p - 2) B)) (close (drop (p - 2) B) || far (drop (p - 2) B)) (at (p - 2))) in

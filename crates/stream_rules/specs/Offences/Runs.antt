@@ -15,7 +15,7 @@ use Rattle.lists.specs.Each.{Each}
 use Rattle.lists.specs.Each.Case.{case}
 use Rattle.bits.specs.Binary.{Binary}
 use Rattle.words.specs.RunRule.{gaps, runs}
-use Rattle.merging.specs.Rule.{header, starts}
+use Rattle.merging.specs.Rule.{syncHeaderBits, starts}
 
 -- a run that is too short or too long begins here
 abbrev pub near : List ℕ → Bool
@@ -41,13 +41,13 @@ and-none : (a b c : Bool) → b ≡ false → ((a && b) && c) ≡ false
 and-none true b c e = rw e
 and-none false b c e = refl
 
-too-long : (bs : List ℕ) (z : ℕ) → 11 ≤ z → gaps z (bs ++ header) ≡ false
+too-long : (bs : List ℕ) (z : ℕ) → 11 ≤ z → gaps z (bs ++ syncHeaderBits) ≡ false
 too-long [] z h = and-none (leb 2 z) (leb z 10) true (lt-leb z 10 h)
 too-long (zero ∷ bs) z h = too-long bs (suc z) (omega arith)
-too-long (suc b ∷ bs) z h = and-none (leb 2 z) (leb z 10) (gaps 0 (bs ++ header)) (lt-leb z 10 h)
+too-long (suc b ∷ bs) z h = and-none (leb 2 z) (leb z 10) (gaps 0 (bs ++ syncHeaderBits)) (lt-leb z 10 h)
 
 abbrev Ends : ℕ → Type 0
-Ends z = clear (1 ∷ replicate z 0 ++ header) ≡ gaps z header
+Ends z = clear (1 ∷ replicate z 0 ++ syncHeaderBits) ≡ gaps z syncHeaderBits
 
 ends : Each Ends 11
 unfolding clear wrong
@@ -71,20 +71,20 @@ on-one : Each OnOne 11
 unfolding clear wrong
 on-one = (λ x. refl, (λ x. refl, (λ x. refl, (λ x. refl, (λ x. refl, (λ x. refl, (λ x. refl, (λ x. refl, (λ x. refl, (λ x. refl, (λ x. refl, tt)))))))))))
 
-after-one : (bs : List ℕ) (z : ℕ) → z < 11 → Binary bs → clear (1 ∷ replicate z 0 ++ (bs ++ header)) ≡ gaps z (bs ++ header)
+after-one : (bs : List ℕ) (z : ℕ) → z < 11 → Binary bs → clear (1 ∷ replicate z 0 ++ (bs ++ syncHeaderBits)) ≡ gaps z (bs ++ syncHeaderBits)
 after-one [] z h p = case Ends 11 ends z h
 after-one (zero ∷ bs) z h p = go (lt-or-le z 10) (λ l. after-one bs (suc z) l (p .1))
   where
-    go : (z < 10) ⊎ (10 ≤ z) → (suc z < 11 → clear (1 ∷ replicate (suc z) 0 ++ (bs ++ header)) ≡ gaps (suc z) (bs ++ header))
-        → clear (1 ∷ replicate z 0 ++ (0 ∷ (bs ++ header))) ≡ gaps (suc z) (bs ++ header)
-    go (inl l) g = case OnZero 10 on-zero z l (bs ++ header) ∙ g (omega arith)
+    go : (z < 10) ⊎ (10 ≤ z) → (suc z < 11 → clear (1 ∷ replicate (suc z) 0 ++ (bs ++ syncHeaderBits)) ≡ gaps (suc z) (bs ++ syncHeaderBits))
+        → clear (1 ∷ replicate z 0 ++ (0 ∷ (bs ++ syncHeaderBits))) ≡ gaps (suc z) (bs ++ syncHeaderBits)
+    go (inl l) g = case OnZero 10 on-zero z l (bs ++ syncHeaderBits) ∙ g (omega arith)
     go (inr l) g =
         let e : z ≡ 10 = omega arith in
-        ap (λ (k : ℕ). clear (1 ∷ replicate k 0 ++ (0 ∷ (bs ++ header)))) e ∙ eleven (bs ++ header) ∙ sym (too-long bs (suc z) (omega arith))
-after-one (suc zero ∷ bs) z h p = case OnOne 11 on-one z h (bs ++ header) ∙ ap (λ (t : Bool). (leb 2 z && leb z 10) && t) (after-one bs 0 (omega arith) (p .1))
+        ap (λ (k : ℕ). clear (1 ∷ replicate k 0 ++ (0 ∷ (bs ++ syncHeaderBits)))) e ∙ eleven (bs ++ syncHeaderBits) ∙ sym (too-long bs (suc z) (omega arith))
+after-one (suc zero ∷ bs) z h p = case OnOne 11 on-one z h (bs ++ syncHeaderBits) ∙ ap (λ (t : Bool). (leb 2 z && leb z 10) && t) (after-one bs 0 (omega arith) (p .1))
 after-one (suc (suc b) ∷ bs) z h p = absurd (omega (arith, p .0))
 
-pub clear-runs : (bs : List ℕ) → Binary bs → clear (bs ++ header) ≡ runs (bs ++ header)
+pub clear-runs : (bs : List ℕ) → Binary bs → clear (bs ++ syncHeaderBits) ≡ runs (bs ++ syncHeaderBits)
 unfolding clear wrong
 clear-runs [] p = refl
 clear-runs (zero ∷ bs) p = clear-runs bs (p .1)

@@ -9,7 +9,8 @@ use Rattle.bits.specs.Bits.{bitsOf, unpack}
 use Rattle.bits.specs.Bits.Packed.{length-unpack}
 use Rattle.bits.specs.Binary.{Binary}
 use Rattle.bits.specs.Binary.Parts.{binary-append, binary-bits}
-use Rattle.merging.specs.Rule.{header}
+use Rattle.words.specs.Words.{syncHeader}
+use Rattle.merging.specs.Rule.{syncHeaderBits}
 use Rattle.stream_rules.specs.Offences.{judged}
 
 -- the bits of bytes
@@ -20,8 +21,8 @@ binary-unpack (x ∷ xs) = binary-append (bitsOf 8 x) (unpack xs) (binary-bits 8
 
 -- and of the stream
 pub binary-judged : (xs : List ℕ) → Binary (judged xs)
-binary-judged xs = binary-append (unpack xs) header (binary-unpack xs) (binary-bits 24 0b100000000001000000000010)
+binary-judged xs = binary-append (unpack xs) syncHeaderBits (binary-unpack xs) (binary-bits 24 syncHeader)
 
 -- how many they are
 pub length-judged : (xs : List ℕ) → length (judged xs) ≡ 8 * length xs + 24
-length-judged xs = omega (arith, length-append (unpack xs) header, length-unpack xs)
+length-judged xs = omega (arith, length-append (unpack xs) syncHeaderBits, length-unpack xs)

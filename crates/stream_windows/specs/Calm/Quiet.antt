@@ -11,6 +11,7 @@ use lib.Dec.{T, eqb}
 use lib.Pow.{field, shr-shr, mod-mod-pow}
 use Rattle.outcome.specs.Table.Entries.{and-left, and-right, of-true, true-of}
 use Rattle.lists.specs.Each.Case.{case}
+use Rattle.words.specs.Words.{syncHeader}
 use Rattle.stream_rules.specs.Offences.RunRule.{or-none}
 use Rattle.stream_windows.specs.Window.{runIn, headIn}
 use Rattle.stream_windows.specs.Calm.{digit, tight, ones2, ones4, ones8, ones10, ones11, headless, calm}
@@ -58,13 +59,13 @@ quiet-of c m n g k a b =
     ap (digit c) e ∙ g (k - m) (omega arith)
 
 -- where a Sync Header stands in w from digit s + 23 down to digit s, digits s + 2 to s + 11 and s + 13 to s + 22 are 0
-header-quiet : (w s : ℕ) → w / 2 ^ s % 16777216 ≡ 0b100000000001000000000010 → Quiet w (s + 2) 10 × Quiet w (s + 13) 10
+header-quiet : (w s : ℕ) → w / 2 ^ s % 16777216 ≡ syncHeader → Quiet w (s + 2) 10 × Quiet w (s + 13) 10
 header-quiet w s e = (
-  λ q a b. at q (omega arith) (omega arith) (quiet-of 8392706 2 10 (case (λ k. digit 8392706 (2 + k) ≡ 0) 10 (refl, (refl, (refl, (refl, (refl, (refl, (refl, (refl, (refl, (refl, tt))))))))))) (q - s) (omega arith) (omega arith)),
-  λ q a b. at q (omega arith) (omega arith) (quiet-of 8392706 13 10 (case (λ k. digit 8392706 (13 + k) ≡ 0) 10 (refl, (refl, (refl, (refl, (refl, (refl, (refl, (refl, (refl, (refl, tt))))))))))) (q - s) (omega arith) (omega arith)),
+  λ q a b. at q (omega arith) (omega arith) (quiet-of syncHeader 2 10 (case (λ k. digit syncHeader (2 + k) ≡ 0) 10 (refl, (refl, (refl, (refl, (refl, (refl, (refl, (refl, (refl, (refl, tt))))))))))) (q - s) (omega arith) (omega arith)),
+  λ q a b. at q (omega arith) (omega arith) (quiet-of syncHeader 13 10 (case (λ k. digit syncHeader (13 + k) ≡ 0) 10 (refl, (refl, (refl, (refl, (refl, (refl, (refl, (refl, (refl, (refl, tt))))))))))) (q - s) (omega arith) (omega arith)),
 )
   where
-    at : (q : ℕ) → s ≤ q → q < s + 24 → digit 8392706 (q - s) ≡ 0 → digit w q ≡ 0
+    at : (q : ℕ) → s ≤ q → q < s + 24 → digit syncHeader (q - s) ≡ 0 → digit w q ≡ 0
     at q a b z =
         let f : q ≡ s + (q - s) = omega arith in
         ap (digit w) f ∙ sym (field-digit w s 24 (q - s) (23 - (q - s)) (omega arith)) ∙ ap (λ (c : ℕ). digit c (q - s)) e ∙ z
@@ -168,7 +169,7 @@ module _ (w e d : ℕ) (h : d < 24) (c : calm w e ≡ true) where
   -- and no Sync Header begins, where e has a ONE
   pub no-header : digit e d ≡ 1 → headIn (w / 2 ^ (1 + d) % 34359738368) ≡ false
   no-header o =
-      ne-eqb (w / 2 ^ (1 + d) % 34359738368 % 16777216) 0b100000000001000000000010
+      ne-eqb (w / 2 ^ (1 + d) % 34359738368 % 16777216) syncHeader
       (λ z.
       let y = header-quiet w (1 + d) (sym from ∙ z) in
       let k : 1 + d + 2 ≡ 3 + d = omega arith in

@@ -11,6 +11,7 @@ use lib.ListN.{length}
 use Rattle.outcome.specs.Table.Entries.{and-left, and-right, of-true, true-of}
 use Rattle.lists.specs.Each.Case.{case}
 use Rattle.bits.specs.Binary.{Binary}
+use Rattle.words.specs.Words.{syncHeader}
 use Rattle.fields.specs.Fields.{fieldAt}
 use Rattle.stream_rules.specs.Offences.{runOffends, headerOffends}
 use Rattle.stream_windows.specs.Window.{led, window, runIn, headIn}
@@ -23,7 +24,7 @@ use Rattle.stream_windows.specs.Calm.Quiet.{no-run, no-header, all-ones,
 record Shown (w t : ℕ) : Type 0 where
   places : ℕ
   calm-is : calm w places ≡ true
-  stands : (d : ℕ) → d < 24 → (24 * t + 23 - d) % 588 ≡ 0 → w / 2 ^ (1 + d) % 16777216 ≡ 0b100000000001000000000010
+  stands : (d : ℕ) → d < 24 → (24 * t + 23 - d) % 588 ≡ 0 → w / 2 ^ (1 + d) % 16777216 ≡ syncHeader
   absent : (d : ℕ) → d < 24 → ((24 * t + 23 - d) % 588 ≡ 0 → ⊥) → digit places d ≡ 1
 
 both : (a b : Bool) → (a && b) ≡ true → (a ≡ true) × (b ≡ true)
@@ -72,16 +73,16 @@ unfolding tripleCalm
 shown w t e = go (eqb (t % 49) 0) (eqb (t % 49) 24) refl refl e
   where
     go : (a b : Bool) → eqb (t % 49) 0 ≡ a → eqb (t % 49) 24 ≡ b
-        → cond a (eqb (w / 2 ^ 24 % 16777216) 8392706 && calm w 8388607) (cond b (eqb (w / 2 ^ 12 % 16777216) 8392706 && calm w 16775167) (calm w 16777215)) ≡ true → Shown w t
+        → cond a (eqb (w / 2 ^ 24 % 16777216) syncHeader && calm w 8388607) (cond b (eqb (w / 2 ^ 12 % 16777216) syncHeader && calm w 16775167) (calm w 16777215)) ≡ true → Shown w t
     go true b p q r =
-        let s = both (eqb (w / 2 ^ 24 % 16777216) 8392706) (calm w 8388607) r in
+        let s = both (eqb (w / 2 ^ 24 % 16777216) syncHeader) (calm w 8388607) r in
         let m : t % 49 ≡ 0 = eqb-true (t % 49) 0 p in
         record {
           places = 8388607;
           calm-is = s .1;
           stands = λ d h z.
               let k : d ≡ 23 = omega (arith, bit-among t d 0 h m, z) in
-              ap (λ (x : ℕ). w / 2 ^ (1 + x) % 16777216) k ∙ eqb-true (w / 2 ^ 24 % 16777216) 8392706 (s .0);
+              ap (λ (x : ℕ). w / 2 ^ (1 + x) % 16777216) k ∙ eqb-true (w / 2 ^ 24 % 16777216) syncHeader (s .0);
           absent = λ d h n. first-open d (less d h n);
         }
       where
@@ -92,14 +93,14 @@ shown w t e = go (eqb (t % 49) 0) (eqb (t % 49) 24) refl refl e
             by true y = let k : d ≡ 23 = eqb-true d 23 y in absurd (n (omega (arith, bit-among t d 0 h (eqb-true (t % 49) 0 p))))
             by false y = let k : d ≡ 23 → ⊥ = eqb-false d 23 y in omega arith
     go false true p q r =
-        let s = both (eqb (w / 2 ^ 12 % 16777216) 8392706) (calm w 16775167) r in
+        let s = both (eqb (w / 2 ^ 12 % 16777216) syncHeader) (calm w 16775167) r in
         let m : t % 49 ≡ 24 = eqb-true (t % 49) 24 q in
         record {
           places = 16775167;
           calm-is = s .1;
           stands = λ d h z.
               let k : d ≡ 11 = omega (arith, bit-among t d 24 h m, z) in
-              ap (λ (x : ℕ). w / 2 ^ (1 + x) % 16777216) k ∙ eqb-true (w / 2 ^ 12 % 16777216) 8392706 (s .0);
+              ap (λ (x : ℕ). w / 2 ^ (1 + x) % 16777216) k ∙ eqb-true (w / 2 ^ 12 % 16777216) syncHeader (s .0);
           absent = λ d h n. middle-open d h (λ k. n (omega (arith, k, bit-among t d 24 h m)));
         }
     go false false p q r =
@@ -139,8 +140,8 @@ module _ (B : List ℕ) (b : Binary B) (t w : ℕ) (room : 24 * t + 48 ≤ lengt
       where
         go : Shown w t → (x : Bool) → eqb ((24 * t + 23 - d) % 588) 0 ≡ x → cond x (not (headIn (window B (24 * t + 23 - d)))) (headIn (window B (24 * t + 23 - d))) ≡ false
         go s true y =
-            let z : w / 2 ^ (1 + d) % 34359738368 % 16777216 ≡ 8392706 = from w (s .places) d h (s .calm-is) ∙ s .stands d h (eqb-true ((24 * t + 23 - d) % 588) 0 y) in
-            ap not (ap headIn (view d h) ∙ eq-eqb (w / 2 ^ (1 + d) % 34359738368 % 16777216) 8392706 z)
+            let z : w / 2 ^ (1 + d) % 34359738368 % 16777216 ≡ syncHeader = from w (s .places) d h (s .calm-is) ∙ s .stands d h (eqb-true ((24 * t + 23 - d) % 588) 0 y) in
+            ap not (ap headIn (view d h) ∙ eq-eqb (w / 2 ^ (1 + d) % 34359738368 % 16777216) syncHeader z)
         go s false y = ap headIn (view d h) ∙ no-header w (s .places) d h (s .calm-is) (s .absent d h (eqb-false ((24 * t + 23 - d) % 588) 0 y))
 
     -- NO RUN AND NO SYNC HEADER OFFENDS at a bit of the triple

@@ -11,7 +11,8 @@ use lib.ListN.{length, take, drop, replicate, length-drop}
 use Rattle.bits.specs.Bits.{number}
 use Rattle.bits.specs.Binary.{Binary}
 use Rattle.bits.specs.Binary.Parts.{binary-bits, binary-drop}
-use Rattle.merging.specs.Rule.{header, starts}
+use Rattle.words.specs.Words.{syncHeader}
+use Rattle.merging.specs.Rule.{syncHeaderBits, starts}
 use Rattle.fields.specs.Fields.{fieldAt}
 use Rattle.fields.specs.Fields.Parts.{field-lt, field-split}
 use Rattle.stream_rules.specs.Offences.{back, runOffends, headerOffends, rightWord, wordPlace, wordOffends}
@@ -66,8 +67,8 @@ module _ (B : List ℕ) (b : Binary B) (p : ℕ) (room : p + 24 ≤ length B) wh
       let e : p + 5 + 9 ≡ p + 14 = omega arith in
       ap (λ (v : ℕ). v % 8) upto ∙ lower L bl (p + 5) 9 3 (omega (arith, long)) ∙ ap (λ (k : ℕ). fieldAt L k 3) e
 
-  pub head-is : starts header (drop p B) ≡ headIn (window B p)
-  head-is = header-number B b p room ∙ ap (λ (v : ℕ). eqb v 0b100000000001000000000010) (sym from)
+  pub head-is : starts syncHeaderBits (drop p B) ≡ headIn (window B p)
+  head-is = header-number B b p room ∙ ap (λ (v : ℕ). eqb v syncHeader) (sym from)
 
   near-is : back 1 (1 ∷ 1 ∷ []) B p ≡ eqb (window B p / 8388608 % 4) 3
   unfolding L

@@ -2,7 +2,7 @@
 -- Assumes nothing.
 use mathlib.Core.Path.{_≡_, refl}
 use mathlib.Core.List.{[], _∷_}
-use Rattle.tally.specs.declared.Fate.the-variants.{Clean, Repaired, Refused}
+use Rattle.fate_counts.specs.declared.Fate.the-variants.{Clean, Repaired, Refused}
 use Rattle.text.specs.Characters.{ascii}
 use Rattle.numerals.specs.Numerals.{decimal, decimalWithin, hexDigit, hex}
 use Rattle.text.specs.Report.{report}

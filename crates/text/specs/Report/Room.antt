@@ -3,11 +3,11 @@
 use mathlib.Core.Path.{_≡_}
 use Prim.Native.Nat.{_+_, _<_}
 use native.Mathlib.Omega.{arith}
-use Rattle.tally.specs.declared.Counts.{Counts}
-use Rattle.tally.specs.declared.Fate.{Fate}
-use Rattle.tally.specs.declared.Fate.the-variants.{Clean, Repaired, Refused}
-use Rattle.tally.specs.Counting.{largest, countedWith}
-use Rattle.tally.specs.Counting.Added.{one-more}
+use Rattle.fate_counts.specs.declared.Counts.{Counts}
+use Rattle.fate_counts.specs.declared.Fate.{Fate}
+use Rattle.fate_counts.specs.declared.Fate.the-variants.{Clean, Repaired, Refused}
+use Rattle.fate_counts.specs.Counting.{largest, countedWith}
+use Rattle.fate_counts.specs.Counting.Added.{one-more}
 use Rattle.text.specs.Report.{isClean, isRepaired, isRefused}
 
 -- the counts d are the counts c with one Sector of this fate more

@@ -1,15 +1,13 @@
 -- What is tried is one Sector, and a correct Sector of Mode 01 is what is tried of all that agrees with it on bytes 12 to 2,247.
 -- Assumes nothing.
 use mathlib.Core.Path.{_≡_, sym, _∙_}
-use mathlib.Core.Bool.{Bool, true}
 use mathlib.Core.List.{List}
 use Prim.Native.Nat.{ℕ}
 use Rattle.rspc.specs.Words.{SameCovered}
 use Rattle.rspc.specs.Words.Parity.{q-one}
-use Rattle.rspc.specs.Place.One.{in-place-one}
 use Rattle.sector.specs.Correct.{CorrectMode01}
 use Rattle.sector.specs.Correct.Whole.{whole}
-use Rattle.trial.specs.Tried.{Tried, Freshen}
+use Rattle.trial.specs.Tried.{Tried}
 
 pub tried-one : (s t u : List ℕ) → Tried s t → Tried s u → t ≡ u
 tried-one s t u p q =
@@ -20,8 +18,3 @@ pub correct-tried : (s t : List ℕ) → CorrectMode01 t → SameCovered t s →
 correct-tried s t c e =
     let h = c .correct .head in
     record { long = h .long; bytes = h .bytes; synced = h .synced; covered = e; q = c .correct .mode01 (c .mode) .q }
-
--- two outcomes of freshening coincide
-pub freshen-one : (s : List ℕ) (a b : Bool) (t u : List ℕ) → Freshen s a t → Freshen s b u → (a ≡ b) × (t ≡ u)
-freshen-one s a b t u =
-    in-place-one (λ s r t. (r ≡ true) × Tried s t) s a b t u (λ e p q. (p .0 ∙ sym (q .0), tried-one s t u (p .1) (q .1)))

@@ -7,20 +7,16 @@ use mathlib.Core.Logic.{_⊎_, inl, inr}
 use mathlib.Core.List.{List}
 use Prim.Native.Nat.{ℕ, zero, suc, _+_, _-_, _<_, _≤_}
 use native.Mathlib.Omega.{arith}
-use lib.ListN.{length, getD, take, drop, length-drop}
-use lib.Seq.{ext-getD, take-add, take-all, length-take-le}
+use lib.ListN.{length, getD, drop, length-drop}
+use lib.Seq.{ext-getD, take-all}
 use Rattle.outcome.specs.Say.{Say}
 use Rattle.outcome.specs.Say.Refusals.{never}
-use Rattle.outcome.specs.Bytes.{Bytes}
-use Rattle.outcome.specs.Bytes.Kept.{bytes-take, bytes-drop}
 use Rattle.outcome.specs.First.Found.{lt-or-le}
 use Rattle.lists.specs.Agree.{same-front, same-back, same-take, same-between}
-use Rattle.edc.specs.Edc.{Divisible, edc}
-use Rattle.edc.specs.Edc.Right.{edc-one}
-use Rattle.rspc.specs.Words.Parity.{p-one}
 use Rattle.sector.specs.Layout.{bytesFrom, timeOf, modeOf, userLength, userData}
-use Rattle.sector.specs.Correct.{Head, Protected, CorrectMode01}
-use Rattle.sector.specs.Correct.Whole.{covered-one}
+use Rattle.sector.specs.Correct.{Protected}
+use Rattle.sector_fields.specs.Protect.{Protects}
+use Rattle.sector_fields.specs.Protect.One.{protects-one}
 use Rattle.address.specs.declared.HeaderTime.{HeaderTime}
 use Rattle.modes.specs.Modes.{isWritten}
 use Rattle.modes.specs.Modes.Both.{one-or-two}
@@ -80,21 +76,10 @@ module _ {mode : ℕ} {time : HeaderTime} {user s t : List ℕ} (a : Asked mode 
       (sym (take-all 2336 (drop 16 s) (omega (arith, length-drop 16 s))) ∙ user-of 2336 (ap userLength e)
       ∙ take-all 2336 (drop 16 t) (omega (arith, length-drop 16 t)))
 
+  -- the Sector with its EDC and parities put in is the only one
   mode-01 : mode ≡ 1 → s ≡ t
-  mode-01 e = covered-one s t cs ct (p-one s t (hs .bytes) (ht .bytes) protected (ps .p) (pt .p))
+  mode-01 e = protects-one s s t (a .correct .head .bytes) (b .correct .head .bytes) own other
     where
-      hs : Head s
-      hs = a .correct .head
-
-      ht : Head t
-      ht = b .correct .head
-
-      cs : CorrectMode01 s
-      cs = record { correct = a .correct; mode = a .has-mode ∙ e }
-
-      ct : CorrectMode01 t
-      ct = record { correct = b .correct; mode = b .has-mode ∙ e }
-
       ps : Protected s
       ps = a .correct .mode01 (a .has-mode ∙ e)
 
@@ -102,31 +87,26 @@ module _ {mode : ℕ} {time : HeaderTime} {user s t : List ℕ} (a : Asked mode 
       pt = b .correct .mode01 (b .has-mode ∙ e)
 
       -- bytes 0 to 2,063
-      given : (i : ℕ) → i < 2064 → getD s i 0 ≡ getD t i 0
-      given i h = at (lt-or-le i 16)
+      given : (i : ℕ) → i < 2064 → getD t i 0 ≡ getD s i 0
+      given i h = sym (at (lt-or-le i 16))
         where
           at : (i < 16) ⊎ (16 ≤ i) → getD s i 0 ≡ getD t i 0
           at (inl l) = first-sixteen i l
           at (inr l) = same-between 16 2048 s t (user-of 2048 (ap userLength e)) i l (omega arith)
 
-      front : take 2064 s ≡ take 2064 t
-      front = same-take 2064 s t (ls ∙ sym lt) given
+      own : Protects s s
+      own = record { long = ls; before = refl; between = refl; edc = ps .edc; p = ps .p; q = ps .q }
 
-      edc-of : (u : List ℕ) → length u ≡ 2352 → Bytes u → Divisible (take 2068 u) → bytesFrom 2064 4 u ≡ edc (take 2064 u)
-      edc-of u l h d =
-          edc-one (take 2064 u) (bytesFrom 2064 4 u) (length-take-le 4 (drop 2064 u) (omega (arith, length-drop 2064 u)))
-          (bytes-take 4 (drop 2064 u) (bytes-drop 2064 u h)) (subst (λ (w : List ℕ). Divisible w) (take-add 2064 4 u) d)
-
-      same-edc : bytesFrom 2064 4 s ≡ bytesFrom 2064 4 t
-      same-edc = edc-of s ls (hs .bytes) (ps .edc) ∙ ap edc front ∙ sym (edc-of t lt (ht .bytes) (pt .edc))
-
-      protected : (i : ℕ) → 12 ≤ i → i < 2076 → getD s i 0 ≡ getD t i 0
-      protected i l h = at (lt-or-le i 2064) (lt-or-le i 2068)
-        where
-          at : (i < 2064) ⊎ (2064 ≤ i) → (i < 2068) ⊎ (2068 ≤ i) → getD s i 0 ≡ getD t i 0
-          at (inl m) n = given i m
-          at (inr m) (inl n) = same-between 2064 4 s t same-edc i m (omega arith)
-          at (inr m) (inr n) = same-between 2068 8 s t (ps .intermediate ∙ sym (pt .intermediate)) i n (omega arith)
+      other : Protects s t
+      other =
+          record {
+            long = lt;
+            before = same-take 2064 t s (lt ∙ sym ls) given;
+            between = pt .intermediate ∙ sym (ps .intermediate);
+            edc = pt .edc;
+            p = pt .p;
+            q = pt .q;
+          }
 
 -- only one Sector is asked for
 pub asked-one : (mode : ℕ) {time : HeaderTime} {user s t : List ℕ} → isWritten mode ≡ true → Asked mode time user s → Asked mode time user t → s ≡ t

@@ -1,10 +1,12 @@
 //! The benchmark: the time of each work as a ratio to the unit, one pass of a byte-table CRC-32 over 2,352 bytes, in the
-//! same run. A round times the unit and every work once, so that a slow spell meets all of them; medians are compared.
-//! With the argument `--strict` it fails where a work takes more than its target.
+//! same run. A round times the unit and every work once, so that a slow spell meets all of them; of each the least time counts, which other
+//! programs on the machine disturb least.
+//! With the argument `--strict` it fails where a work takes more than it may, or where the report was not run.
 
 mod report;
 mod works;
 
+use std::process::ExitCode;
 use std::time::{Duration, Instant};
 
 const ROUNDS: usize = 31;
@@ -41,25 +43,25 @@ impl Crc {
 
 struct Work {
     name: &'static str,
-    /// The most units that it may take, where a target is set.
-    most: Option<f64>,
+    /// The most units that it may take.
+    most: f64,
     once: Box<dyn FnMut()>,
     /// How many times it is done in a round.
     passes: u32,
-    /// Seconds that one pass took, round by round.
-    times: Vec<f64>,
+    /// Seconds that one pass took in the fastest round.
+    least: f64,
 }
 
 impl Work {
-    fn new(name: &'static str, most: Option<f64>, once: impl FnMut() + 'static) -> Work {
-        let mut work = Work { name, most, once: Box::new(once), passes: 1, times: Vec::new() };
-        while work.round() < ROUND_TIME {
+    fn new(name: &'static str, most: f64, once: impl FnMut() + 'static) -> Work {
+        let mut work = Work { name, most, once: Box::new(once), passes: 1, least: f64::INFINITY };
+        while work.time_passes() < ROUND_TIME {
             work.passes *= 2;
         }
         work
     }
 
-    fn round(&mut self) -> Duration {
+    fn time_passes(&mut self) -> Duration {
         let start = Instant::now();
         for _ in 0..self.passes {
             (self.once)();
@@ -67,42 +69,40 @@ impl Work {
         start.elapsed()
     }
 
-    fn median(&self) -> f64 {
-        let mut times = self.times.clone();
-        times.sort_by(f64::total_cmp);
-        times[times.len() / 2]
+    fn round(&mut self) {
+        let time = self.time_passes().as_secs_f64() / self.passes as f64;
+        self.least = self.least.min(time);
     }
 }
 
-/// Whether every work keeps to its target.
+/// Whether no work takes more than it may.
 fn print(works: &[Work]) -> bool {
-    let unit = works[0].median();
-    println!("one unit is {:.2} µs, the median of {ROUNDS} rounds", unit * 1e6);
+    let unit = works[0].least;
+    println!("one unit is {:.2} µs, the least of {ROUNDS} rounds", unit * 1e6);
     println!("{:>8} {:>8}  work", "units", "at most");
     let mut kept = true;
     for work in works {
-        let units = work.median() / unit;
-        let most = work.most.map_or(String::new(), |most| format!("{most:.2}"));
-        let slow = work.most.is_some_and(|most| units > most);
-        println!("{units:>8.2} {most:>8}  {}{}", work.name, if slow { ": too slow" } else { "" });
+        let units = work.least / unit;
+        let slow = units > work.most;
+        let remark = if slow { ": too slow" } else { "" };
+        println!("{units:>8.2} {:>8.2}  {}{remark}", work.most, work.name);
         kept &= !slow;
     }
     kept
 }
 
-fn main() {
+fn main() -> ExitCode {
+    let strict = std::env::args().any(|argument| argument == "--strict");
     let mut works = works::works();
     for _ in 0..ROUNDS {
-        for work in &mut works {
-            let time = work.round().as_secs_f64() / work.passes as f64;
-            work.times.push(time);
-        }
+        works.iter_mut().for_each(Work::round);
     }
     let kept = print(&works);
-    report::print();
-    if !kept && std::env::args().any(|argument| argument == "--strict") {
-        std::process::exit(1);
+    let run = report::print();
+    if strict && !(kept && run) {
+        return ExitCode::FAILURE;
     }
+    ExitCode::SUCCESS
 }
 
 #[cfg(test)]

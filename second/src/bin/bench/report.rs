@@ -41,14 +41,16 @@ fn speed(program: &Path, image: &Path) -> std::io::Result<f64> {
     Ok(best)
 }
 
-pub fn print() {
+/// Whether the program was there to be run.
+pub fn print() -> bool {
     let package = Path::new(env!("CARGO_MANIFEST_DIR"));
     let program = package.join("../target/bin/report");
     let image = std::env::temp_dir().join(format!("sectors-{}.bin", std::process::id()));
     let measured = write_image(&image).and_then(|()| speed(&program, &image));
     let _ = std::fs::remove_file(&image);
-    match measured {
+    match &measured {
         Ok(speed) => println!("report of 100 MB: {speed:.0} MB/s"),
         Err(error) => println!("report of 100 MB: not run ({}: {error})", program.display()),
     }
+    measured.is_ok()
 }

@@ -1,4 +1,5 @@
-//! What is timed: the unit, and the proved code with the targets that are set for it.
+//! What is timed: the unit, and the proved code with the most units that each work may take. That is the aim of docs/ for scrambling (0.25),
+//! `cut` and `join` (0.1), the CIRC writer and reader (3.5 and 5) and a judged Section (6), and else one and a half times what it took.
 
 use crate::{Crc, Work};
 use second::alignment::{FRAME, MOST_FRAMES, MOST_SECTORS, ROOM};
@@ -19,7 +20,7 @@ pub fn works() -> Vec<Work> {
             black_box(crc.pass(black_box(&sector)));
         }
     };
-    let mut works = vec![Work::new("unit: CRC-32 by a byte table, 2,352 bytes", None, unit)];
+    let mut works = vec![Work::new("unit: CRC-32 by a byte table, 2,352 bytes", 1.0, unit)];
     works.extend(edc(&sector));
     works.extend(sectors());
     works.extend(frames(&sector));
@@ -35,7 +36,7 @@ fn edc(sector: &[u8]) -> Vec<Work> {
     let once = move || {
         black_box(proved::edc_remainder(black_box(&sector)));
     };
-    vec![Work::new("EDC of 2,352 bytes", Some(1.3), once)]
+    vec![Work::new("EDC of 2,352 bytes", 0.55, once)]
 }
 
 fn sectors() -> Vec<Work> {
@@ -79,11 +80,11 @@ fn sectors() -> Vec<Work> {
         }
     };
     vec![
-        Work::new("write a Sector of Mode 01", Some(1.6), write),
-        Work::new("judge it", None, judge),
-        Work::new("repair it, clean", Some(1.6), repair(clean, 0)),
-        Work::new("repair it, a wrong byte in each P codeword", Some(5.0), each),
-        Work::new("salvage it, two wrong bytes in four P codewords: two passes", None, salvage),
+        Work::new("write a Sector of Mode 01", 0.8, write),
+        Work::new("judge it", 1.9, judge),
+        Work::new("repair it, clean", 1.1, repair(clean, 0)),
+        Work::new("repair it, a wrong byte in each P codeword", 1.3, each),
+        Work::new("salvage it, two wrong bytes in four P codewords: two passes", 3.4, salvage),
         at_once,
         one_by_one,
     ]
@@ -106,8 +107,8 @@ fn sixteen(clean: &[u8]) -> [Work; 2] {
         }
     };
     [
-        Work::new("repair 16 clean Sectors in one call", Some(16.0 * 1.6), at_once),
-        Work::new("repair 16 clean Sectors in 16 calls", None, one_by_one),
+        Work::new("repair 16 clean Sectors in one call", 16.0 * 1.1, at_once),
+        Work::new("repair 16 clean Sectors in 16 calls", 16.0 * 1.1, one_by_one),
     ]
 }
 
@@ -123,7 +124,7 @@ fn frames(sector: &[u8]) -> Vec<Work> {
         let once = move || {
             assert_eq!(step(black_box(&sector), black_box(&mut out)), 0);
         };
-        Work::new(name, Some(most), once)
+        Work::new(name, most, once)
     };
     steps.map(work).into()
 }
@@ -156,9 +157,9 @@ fn alignment() -> Vec<Work> {
         }
     };
     vec![
-        Work::new("align 16 Sectors at n = 5", None, align),
-        Work::new("find them", None, find(frames, 0)),
-        Work::new("find no Sync in 2,730 frames", None, find(vec![0; FRAME * MOST_FRAMES], 24)),
+        Work::new("align 16 Sectors at n = 5", 0.35, align),
+        Work::new("find them", 0.6, find(frames, 0)),
+        Work::new("find no Sync in 2,730 frames", 3.6, find(vec![0; FRAME * MOST_FRAMES], 24)),
     ]
 }
 
@@ -185,9 +186,9 @@ fn circ(sector: &[u8]) -> Vec<Work> {
     let lost = with_marks(&f2, |n| n / 4 % 7 == 0);
     let read: Run = proved::circ_read;
     vec![
-        work("CIRC writer, 98 frames", Some(15.0), proved::circ_write, sector, [24, 32]),
-        work("CIRC reader, 98 frames, undamaged", Some(25.0), read, &plain, [64, 24]),
-        work("CIRC reader, 588 frames, four erasures in each C2 word", None, read, &lost, [64, 24]),
+        work("CIRC writer, 98 frames", 3.5, proved::circ_write, sector, [24, 32]),
+        work("CIRC reader, 98 frames, undamaged", 5.0, read, &plain, [64, 24]),
+        work("CIRC reader, 588 frames, four erasures a C2 word", 155.0, read, &lost, [64, 24]),
     ]
 }
 
@@ -211,9 +212,9 @@ fn sections() -> Vec<Work> {
         assert_eq!(proved::read_section(black_box(&channel), &mut bytes, &mut marks), 0);
     };
     vec![
-        Work::new("write a Section", Some(40.0), write),
-        Work::new("read a Section", Some(10.0), read),
-        Work::new("judge a Section", Some(6.0), judge),
+        Work::new("write a Section", 22.0, write),
+        Work::new("read a Section", 1.9, read),
+        Work::new("judge a Section", 6.0, judge),
     ]
 }
 
@@ -243,8 +244,8 @@ fn captures() -> Vec<Work> {
         assert_eq!(proved::replay(black_box(&capture), black_box(&mut frames)).number, 0);
     };
     vec![
-        Work::new("keep a capture of 64 KiB as its list of runs", None, keep),
-        Work::new("restore it", None, restore),
-        Work::new("replay a capture of 64 KiB", None, replay),
+        Work::new("keep a capture of 64 KiB as its list of runs", 5.6, keep),
+        Work::new("restore it", 5.6, restore),
+        Work::new("replay a capture of 64 KiB", 33.0, replay),
     ]
 }

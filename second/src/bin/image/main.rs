@@ -1,5 +1,5 @@
-//! Writes an image of Sectors to standard output: the stored input of the program crates `report` (`mixed`) and `empties` (`empties`), of
-//! `tests/reports/many` (`many`) and of the folders of `tests/dumps`, each by its name.
+//! Writes an image of Sectors to standard output: the stored input of the program crates `report` (`mixed`) and `empties` (`empties`), and of
+//! the folders of `tests/reports` and `tests/dumps`, each by its name. `tests/images.rs` holds them against it.
 
 mod dumps;
 mod sectors;
@@ -8,6 +8,7 @@ use second::random::Random;
 use second::sector::empty;
 use sectors::{address, lead_in, sector};
 use std::io::Write;
+use std::process::ExitCode;
 
 /// Thirteen Sectors, clean, repaired and refused, one of them from a Lead-in Area, and a tail of three bytes.
 fn mixed(random: &mut Random) -> Vec<u8> {
@@ -56,16 +57,20 @@ fn many(random: &mut Random) -> Vec<u8> {
     image
 }
 
-fn main() {
+fn main() -> ExitCode {
     let mut random = Random::new(130);
     let name = std::env::args().nth(1).unwrap_or_default();
     let image = match name.as_str() {
         "mixed" => Some(mixed(&mut random)),
         "many" => Some(many(&mut random)),
+        "empty" => Some(Vec::new()),
+        "zeros" => Some(vec![0; 4709]),
         name => dumps::dump(name),
     };
-    match image {
-        Some(image) => std::io::stdout().write_all(&image).expect("standard output"),
-        None => eprintln!("image: mixed, many, empties, or a name of tests/dumps"),
-    }
+    let Some(image) = image else {
+        eprintln!("image: mixed, empties, or a name of tests/reports or tests/dumps");
+        return ExitCode::FAILURE;
+    };
+    std::io::stdout().write_all(&image).expect("standard output");
+    ExitCode::SUCCESS
 }

@@ -107,7 +107,7 @@ fn before_a_header_only_100_and_000() {
             let bits = [word.as_slice(), &merging, &SYNC_HEADER].concat();
             assert!(!keeps_the_run_rule(&bits));
         }
-        assert!(!offers(&word, &SYNC_HEADER).is_empty());
+        assert!(!offers(word, &SYNC_HEADER).is_empty());
     }
     assert_eq!(offers(&digits("00100100100000"), &SYNC_HEADER), ["100", "000"]);
 }

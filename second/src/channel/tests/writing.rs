@@ -96,14 +96,16 @@ fn every_choice_is_the_best() {
     }
 }
 
-/// The first bits: header, 000 by document 01's figure for SYNC 0, and after the second header 010 or 001.
+/// The first bits: header, 000 and SYNC 0 with document 01's figures for the DSV, and after the second header 010 or 001.
 #[test]
 fn start_of_a_fresh_section() {
     let bits = unpack(&written(&mut SectionWriter::new(), &[0; FRAME_BYTES], &[0; CONTROL_BYTES]));
     assert_eq!(bits.len(), BITS);
     assert_eq!(bits[..24], SYNC_HEADER);
     assert_eq!(after(-1, 0, &bits[..24]).1, 2);
+    assert_eq!(bits[24..27], [0, 0, 0]);
     assert_eq!(bits[27..41], SYNC_0);
+    assert_eq!(after(-1, 0, &bits[..41]).1, -3);
     assert_eq!(bits[588..612], SYNC_HEADER);
     assert!([[0, 1, 0], [0, 0, 1]].iter().any(|merging| bits[612..615] == *merging));
     assert_eq!(bits[615..629], SYNC_1);

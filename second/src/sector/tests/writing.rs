@@ -49,35 +49,6 @@ fn addresses_accepted_and_refused() {
     }
 }
 
-/// All combinations of the four faults: the first in the order 2, 3, 1, 4 is the answer.
-fn order_of_refusals(wrong_mode: u8) {
-    for faults in 1..16 {
-        let has = |bit: u8| faults >> bit & 1 == 1;
-        let mut out = vec![0xAA; if has(0) { LENGTH - 1 } else { LENGTH }];
-        let mode = if has(1) { wrong_mode } else { 1 };
-        let data = vec![7; if has(2) { 2047 } else { 2048 }];
-        let address = if has(3) { [0x00, 0x60, 0x00] } else { ADDRESS };
-        let expected = if has(0) {
-            WrongOutgoing
-        } else if has(1) {
-            WrongMode
-        } else if has(2) {
-            WrongIncoming
-        } else {
-            WrongAddress
-        };
-        assert_eq!(write(mode, address, &data, &mut out), Err(expected));
-        let left = if has(0) { 0xAA } else { 0x00 };
-        assert!(out.iter().all(|&byte| byte == left));
-    }
-}
-
-#[test]
-fn order_of_refusals_with_mode_00_and_with_none_of_the_standard() {
-    order_of_refusals(0);
-    order_of_refusals(3);
-}
-
 #[test]
 fn each_mode_takes_one_length_only() {
     let mut out = vec![0; LENGTH];

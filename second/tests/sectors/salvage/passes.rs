@@ -1,7 +1,7 @@
 //! Damaged Sectors by the number of passes that they need.
 
 use super::{same, spoil};
-use crate::sector;
+use crate::sectors::sector;
 use second::proved;
 use second::random::Random;
 use second::sector::*;

@@ -5,18 +5,18 @@ use borrow.Author.Needs.{needs}
 use Rattle.address.proofs.HeaderTime.minute_right.Statement.{statement}
 use Rattle.address.proofs.HeaderTime.minute_right.Tie as tie
 
-in-program-area-requires : tie.Need-in-program-area-requires
-in-program-area-requires c κs = search needs
+in-user-data-or-lead-out-requires : tie.Need-in-user-data-or-lead-out-requires
+in-user-data-or-lead-out-requires c κs = search needs
 
 returns : tie.Need-returns
-returns c = simp (sym (c .before .in-program-area .ensures) ∙ c .if1 .taken)
+returns c = simp (sym (c .before .in-user-data-or-lead-out .ensures) ∙ c .if1 .taken)
 
 in-lead-in-requires : tie.Need-in-lead-in-requires
 in-lead-in-requires c κs = search needs
 
 returns-2 : tie.Need-returns-2
-returns-2 c = simp (sym (c .before .before .in-program-area .ensures) ∙ c .before .if1 .left, c .in-lead-in .ensures)
+returns-2 c = simp (sym (c .before .before .in-user-data-or-lead-out .ensures) ∙ c .before .if1 .left, c .in-lead-in .ensures)
 
 pub minute-right-spec : {M : Type 1} → statement M
 minute-right-spec =
-    tie.close (tie.spec in-program-area-requires returns in-lead-in-requires returns-2)
+    tie.close (tie.spec in-user-data-or-lead-out-requires returns in-lead-in-requires returns-2)

@@ -5,7 +5,7 @@ use Prim.Native.Nat.{ℕ, _+_, _*_}
 use Rattle.bits.specs.Bits.{bitsOf}
 use Rattle.traces.specs.declared.Trace.{Trace}
 use Rattle.choosing.specs.Inner.{WordStands}
-use Rattle.states.specs.States.{afterWord, oneAfter}
+use Rattle.automaton_states.specs.States.{afterWord, oneAfter}
 use Rattle.choosing.proofs.WordCandidates.{one-stands}
 use borrow.Author.Needs.{needs}
 use Rattle.choosing.proofs.word.with_one.Statement.{statement}

@@ -6,7 +6,7 @@ use Rattle.bits.specs.Bits.{bitsOf}
 use Rattle.merging.specs.Chosen.{m000}
 use Rattle.traces.specs.declared.Trace.{Trace}
 use Rattle.choosing.specs.Inner.{WordStands}
-use Rattle.states.specs.States.{afterWord}
+use Rattle.automaton_states.specs.States.{afterWord}
 use Rattle.choosing.proofs.WordCandidates.{zeros-stand}
 use borrow.Author.Needs.{needs}
 use Rattle.choosing.proofs.word.without_one.Statement.{statement}

@@ -1,6 +1,6 @@
 -- `section_writer::SectionWriter::write` meets its contract: each way out is a law of `WaysOut`.
 -- Assumes nothing.
-use mathlib.Core.Path.{_≡_}
+use mathlib.Core.Path.{_≡_, sym, _∙_}
 use mathlib.Core.Bool.{true, false}
 use borrow.Author.Tests.{ltb-true}
 use mir.Syntax.{w64}
@@ -54,6 +54,9 @@ returns-3 c =
 is-possible-requires : tie.Need-is-possible-requires
 is-possible-requires c κs = search needs
 
+has-room-requires : tie.Need-has-room-requires
+has-room-requires c κs = search needs
+
 begin-requires : tie.Need-begin-requires
 begin-requires c κs = search needs
 
@@ -62,13 +65,13 @@ write-frames-requires c κs = search needs
 
 -- where the call began that has now written the frames
 abbrev start : tie.After-write-frames → tie.Start
-start w = w .before .before .before .before .before .before .before .before .before .before .before .before .before .before
+start w = w .before .before .before .before .before .before .before .before .before .before .before .before .before .before .before
 
 -- the frames are due
 frames-due : (w : tie.After-write-frames) → due (w .before .before .begin .result) (start w .args .frames .now) (start w .args .control .now) (start w .args .out .now) ≡ true
 frames-due w =
     let n = w .before .before in
-    let p = n .before .before .before in
+    let p = n .before .before .before .before in
     let l = p .before .before .before in
     let a = l .before .before .before .before .before .before .args in
     let g = p .before .before .struct-told .given in
@@ -80,7 +83,8 @@ frames-due w =
 advance-requires : tie.Need-advance-requires
 advance-requires c κs =
     let w = c .before .before in
-    (w .write-frames .ensures .laid (frames-due w) .within, ltb-true _ _ (w .before .before .before .if5 .taken))
+    let n = w .before .before in
+    (w .write-frames .ensures .laid (frames-due w) .within, ltb-true _ _ (sym (n .before .before .before .has-room .ensures) ∙ n .before .if5 .taken))
 
 same-length-3 : tie.Need-same-length-3
 same-length-3 c = search needs
@@ -89,7 +93,8 @@ returns-4 : tie.Need-returns-4
 returns-4 c =
     let w = c .before .before .before in
     let n = w .before .before in
-    let p = n .before .before .before in
+    let h = n .before .before .before in
+    let p = h .before in
     let l = p .before .before .before in
     let a = l .before .before .before .before .before .before .args in
     let g = p .before .before .struct-told .given in
@@ -97,7 +102,7 @@ returns-4 c =
     let f : SFits w64 (a .self .level) = record { sfits = g .1 .0 .1 } in
     let r : right (a .self) ≡ true = right-is (a .self) k f _ true (p .is-possible .ensures) (n .before .before .if4 .taken) in
     let d = w .write-frames .ensures .laid (frames-due w) in
-    all-written (a .self) (a .frames .now) (a .control .now) (a .out .now) (l .before .before .if1 .left) (l .before .if2 .left) (l .if3 .left) r (n .before .if5 .taken) (n .begin .result) (w .write-frames .result) (c .advance .result) _
+    all-written (a .self) (a .frames .now) (a .control .now) (a .out .now) (l .before .before .if1 .left) (l .before .if2 .left) (l .if3 .left) r (sym (h .has-room .ensures) ∙ n .before .if5 .taken) (n .begin .result) (w .write-frames .result) (c .advance .result) _
     (begins-as (a .self) k f _ (n .begin .ensures)) d (c .advance .ensures) (λ i. c .before .slice-known4 .given i .fits) (d .long)
 
 clear-requires : tie.Need-clear-requires
@@ -112,7 +117,8 @@ same-length-4 c = search needs
 returns-5 : tie.Need-returns-5
 returns-5 c =
     let d = c .before .before .before .before .before in
-    let p = d .before .before in
+    let h = d .before .before in
+    let p = h .before in
     let l = p .before .before .before in
     let a = l .before .before .before .before .before .before .args in
     let g = p .before .before .struct-told .given in
@@ -120,7 +126,7 @@ returns-5 c =
     let f : SFits w64 (a .self .level) = record { sfits = g .1 .0 .1 } in
     let r : right (a .self) ≡ true = right-is (a .self) k f _ true (p .is-possible .ensures) (d .before .if4 .taken) in
     by-refusal (c .refuse4 .result) (a .self) _ _ _ (c .refuse4 .ensures)
-    (full (a .self) (a .frames .now) (a .control .now) (a .out .now) (l .before .before .if1 .left) (l .before .if2 .left) (l .if3 .left) r (d .if5 .left) _ (c .before .before .before .clear .ensures))
+    (full (a .self) (a .frames .now) (a .control .now) (a .out .now) (l .before .before .if1 .left) (l .before .if2 .left) (l .if3 .left) r (sym (h .has-room .ensures) ∙ d .if5 .left) _ (c .before .before .before .clear .ensures))
 
 clear-requires-2 : tie.Need-clear-requires-2
 clear-requires-2 c κs = search needs
@@ -134,7 +140,7 @@ same-length-5 c = search needs
 returns-6 : tie.Need-returns-6
 returns-6 c =
     let d = c .before .before .before .before .before in
-    let p = d .before in
+    let p = d .before .before in
     let l = p .before .before .before in
     let a = l .before .before .before .before .before .before .args in
     let g = p .before .before .struct-told .given in
@@ -159,6 +165,7 @@ write-spec =
     refuse-requires-3
     returns-3
     is-possible-requires
+    has-room-requires
     begin-requires
     write-frames-requires
     advance-requires
