@@ -21,8 +21,10 @@ test:
 	@tools/gate
 
 bench:
+	rt staticlib code_exports
 	rt staticlib exports
 	rt staticlib road_exports
+	rt staticlib section_exports
 	rt check report
 	cd second && cargo run --offline --release --quiet --bin bench -- $(if $(STRICT),--strict)
 

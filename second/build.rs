@@ -2,7 +2,7 @@
 
 use std::path::Path;
 
-const LIBRARIES: [&str; 2] = ["exports", "road_exports"];
+const LIBRARIES: [&str; 4] = ["code_exports", "exports", "road_exports", "section_exports"];
 
 fn main() {
     let package = std::env::var("CARGO_MANIFEST_DIR").expect("cargo sets it");

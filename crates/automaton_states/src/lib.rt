@@ -3,7 +3,7 @@
 ghost use mathlib.Core.Path.{_≡_};
 ghost use Rattle.automaton_states.specs.States.{entered, afterWord, afterZeros, headerAfterOne, headerAfterZeros};
 
-// The automaton's state where the rule is broken.
+// A state is the number of ZEROs since the last ONE, plus 11 where exactly ten stand before that ONE; this one says that the rule is broken.
 const BROKEN: u8 = 22;
 
 // The state after some ZEROs and a ONE, which leads to `ten` if ten ZEROs stand before it, and else to `plain`.

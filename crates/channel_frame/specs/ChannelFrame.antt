@@ -12,7 +12,7 @@ use Rattle.word_marks.specs.Marks.{byteFor, markFor}
 pub mod Merging
 pub mod Own
 pub mod Lost
-pub mod Standing
+pub mod HeaderThere
 
 -- the 588 bits of frame f
 abbrev pub frameBits : List ℕ → ℕ → List ℕ

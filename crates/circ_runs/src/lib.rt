@@ -2,11 +2,9 @@
 mod lending;
 
 ghost use mathlib.Core.Path.{_≡_};
-ghost use lib.ListN.{length, getD};
+ghost use lib.ListN.{length};
 ghost use Rattle.circ.specs.Chains.{freshWriter};
 ghost use Rattle.circ.specs.Marked.{freshReader};
-ghost use Rattle.circ_reader.specs.Answers as readers;
-ghost use Rattle.told.specs.Told.{numberOf, valuesOf};
 ghost use Rattle.circ_runs.specs.Runs.{call, left, runs};
 ghost use Rattle.circ.specs.Rings.{writerRings, freshWriterRings, readerRings, freshReaderRings};
 ghost use Rattle.circ_runs.specs.Coders.{writing, reading, writingInPlace, readingInPlace};
@@ -14,36 +12,12 @@ ghost use Rattle.circ_runs.specs.Inner.Coding.{coding, oneOf, Leaves};
 use crate::lending::end_of;
 use crate::lending::put;
 use circ_reader::CircReader;
-use circ_reader::ReaderAnswer;
 use circ_reader::read_in_place;
+use circ_told::doubt;
+use circ_told::was_read;
 use circ_writer::CircWriter;
 use circ_writer::number;
 use circ_writer::write_in_place;
-
-fn was_read(a: ReaderAnswer) -> u8
-    ensures { λ r. ⌜ r ≡ numberOf (readers.sayOf a) ⌝ }
-{
-    match a {
-        ReaderAnswer::Sure => 0,
-        ReaderAnswer::InDoubt => 0,
-        ReaderAnswer::WrongIncoming => 1,
-        ReaderAnswer::WrongOutgoing => 2,
-        ReaderAnswer::WrongPlace => 6,
-    }
-}
-
-// The doubt mark that comes with a frame.
-fn doubt(a: ReaderAnswer) -> u8
-    ensures { λ r. ⌜ r ≡ getD (valuesOf (readers.sayOf a)) 0 0 ⌝ }
-{
-    match a {
-        ReaderAnswer::Sure => 0,
-        ReaderAnswer::InDoubt => 1,
-        ReaderAnswer::WrongIncoming => 0,
-        ReaderAnswer::WrongOutgoing => 0,
-        ReaderAnswer::WrongPlace => 0,
-    }
-}
 
 // One call of the writer, whose answer goes into two bytes.
 fn write_frame(

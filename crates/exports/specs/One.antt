@@ -1,5 +1,4 @@
--- What each export promises allows one outcome: `told-one` with the law of the entry that it hands over to, and `said-one` for judging. The other
--- exports promise an equation for all that they hand back, or name one thing (`Parities`; the inverse of a byte: field, `inverse-of-one`).
+-- What each export promises allows one outcome: `told-one` with the law of the entry that it hands over to, and `said-one` for judging; of a batch see `Batches`.
 -- Assumes nothing.
 use mathlib.Core.Path.{_≡_, sym, ap, _∙_}
 use mathlib.Core.List.{List}

@@ -15,7 +15,7 @@ use Rattle.pair_exchange.specs.Exchange.{exchanged, wholeFrames}
 use Rattle.pair_exchange.specs.Exchange.Whole.{exchanged-whole}
 use Rattle.alignment.specs.Found.{room, bytesIn, place, wholeFrom, sectorsFrom}
 use Rattle.alignment.specs.Found.WaysOut.{room-is}
-use Rattle.finding.proofs.Standing.{part-in-order}
+use Rattle.finding.proofs.SyncInFrames.{part-in-order}
 
 -- the bytes of the whole Sectors
 abbrev pub bytesOut : ℕ → ℕ → List ℕ → ℕ

@@ -1,3 +1,3 @@
 mod Search
-mod Standing
+mod SyncInFrames
 mod Laying

@@ -1,2 +1,2 @@
 -- the number at a place
-pub mod Standing
+pub mod NumberShown

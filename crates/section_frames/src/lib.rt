@@ -7,13 +7,16 @@ mod frame;
 mod pen;
 mod symbols;
 
+// The farthest that a DSV gets: 450,000 Sections of 57,624 bits, all at one level.
+const FARTHEST: u64 = 25930800000;
+
 // The level is one, and no count is greater than one that a Section may begin with.
 fn is_near(t: Tally) -> bool
     ensures { λ r. ⌜ r ≡ near t ⌝ }
 {
     if t.level <= 1 {
-        if t.plus <= 25930800000 {
-            return t.minus <= 25930800000;
+        if t.plus <= FARTHEST {
+            return t.minus <= FARTHEST;
         }
         return false;
     }

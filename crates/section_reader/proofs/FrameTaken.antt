@@ -11,7 +11,7 @@ use Rattle.channel_frame.specs.declared.Frame.{Frame}
 use Rattle.channel_frame.specs.declared.Frame.the-variants.{Read, NoHeader}
 use Rattle.channel_frame.specs.ChannelFrame.{headless, wordByte, wordMark, frameByte, frameMark}
 use Rattle.channel_frame.specs.ChannelFrame.Lost.{byte-lost, mark-lost}
-use Rattle.channel_frame.specs.ChannelFrame.Standing.{byte-standing, mark-standing}
+use Rattle.channel_frame.specs.ChannelFrame.HeaderThere.{byte-standing, mark-standing}
 use Rattle.channel_frame.specs.FrameRead.{FrameRead, frameSays, missed}
 use Rattle.channel_frame.specs.FrameRead.Asked.{missed-headless, bytes-of-words, marks-of-words}
 use Rattle.section_reader.specs.Inner.{FrameDue, FrameTaken}

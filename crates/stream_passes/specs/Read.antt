@@ -23,7 +23,7 @@ use Rattle.word_marks.specs.Marks.{markFor}
 use Rattle.channel_frame.specs.ChannelFrame.{headless, wordRead}
 use Rattle.section_reader.specs.Reading.{markRead, bytesRead, marksRead}
 use Rattle.fields.specs.Fields.Parts.{field-keep, field-past}
-use Rattle.channel_frame.specs.ChannelFrame.Standing.{mark-standing}
+use Rattle.channel_frame.specs.ChannelFrame.HeaderThere.{mark-standing}
 use Rattle.section_reader.specs.ReadSay.{readOut, readSay, sectionRead}
 use Rattle.sections.specs.Laid.{laidMark, laidMarks}
 use Rattle.stream_rules.specs.Offences.{judged, listed, rightWord}

@@ -28,7 +28,8 @@ pub fn head_wrong(v: u64, p: usize) -> bool
     w == 0b100000000001000000000010
 }
 
-// No run offends at the 24 bits in the middle of w, and a Sync Header can begin only where `places` has a ZERO.
+// No run offends at the 24 bits in the middle of w, and a Sync Header can begin only where `places` has a ZERO. A bit of `eleven` is ZERO only where that
+// bit and the ten before it are, and so of the other names.
 fn is_calm(w: u64, places: u64) -> bool
     ensures { λ r. ⌜ r ≡ calm w places ⌝ }
 {

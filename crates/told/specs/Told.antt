@@ -5,6 +5,7 @@ use mathlib.Core.List.{List, [], _∷_}
 use Prim.Native.Nat.{ℕ, zero, suc}
 use Rattle.outcome.specs.Say.{Say, done, refused}
 pub mod One
+pub mod Steps
 
 -- 0 where a step is done, and document 01's number where it is refused
 abbrev pub numberOf : Say → ℕ

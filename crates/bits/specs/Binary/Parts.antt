@@ -4,7 +4,7 @@ use mathlib.Core.List.{List, [], _∷_, _++_}
 use Prim.Native.Nat.{ℕ, zero, suc}
 use native.Mathlib.Omega.{arith}
 use lib.ListN.{take, drop}
-use Rattle.bits.specs.Bits.{bitsOf}
+use Rattle.bits.specs.Bits.{bitsOf, unpack}
 use Rattle.bits.specs.Binary.{Binary}
 
 -- bits and then bits
@@ -16,6 +16,12 @@ binary-append (x ∷ a) b p q = (p .0, binary-append a b (p .1) q)
 pub binary-bits : (n v : ℕ) → Binary (bitsOf n v)
 binary-bits zero v = tt
 binary-bits (suc n) v = (omega arith, binary-bits n v)
+
+-- the bits of bytes
+pub binary-unpack : (bytes : List ℕ) → Binary (unpack bytes)
+unfolding unpack
+binary-unpack [] = tt
+binary-unpack (b ∷ bytes) = binary-append (bitsOf 8 b) (unpack bytes) (binary-bits 8 b) (binary-unpack bytes)
 
 -- the first of some bits
 pub binary-take : (n : ℕ) (bs : List ℕ) → Binary bs → Binary (take n bs)

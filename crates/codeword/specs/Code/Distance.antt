@@ -23,16 +23,16 @@ use Rattle.field.specs.Field.Product.{mul-power-add}
 use Rattle.codeword.specs.Code.{sum, Codeword, changes, weight}
 use Rattle.codeword.specs.Code.Sums.{times-none, sum-added}
 use Rattle.codeword.specs.Code.Changes.{unlike-same, unlike-other, unlike-le}
-use Rattle.codeword.specs.Code.OneSumLess.{zeros, head-zero, twist, length-twist, bytes-twist, weight-twist, sum-twist, untwist}
+use Rattle.codeword.specs.Code.OneSumLess.{zerosLike, head-zero, twist, length-twist, bytes-twist, weight-twist, sum-twist, untwist}
 
 -- ---- the law
 
-weight-zero : (d : List ℕ) → weight d ≤ 0 → d ≡ zeros d
+weight-zero : (d : List ℕ) → weight d ≤ 0 → d ≡ zerosLike d
 unfolding weight
 weight-zero [] h = refl
 weight-zero (x ∷ d) h = go (ℕ-discrete x 0) (weight-zero d)
   where
-    go : Dec (x ≡ 0) → (weight d ≤ 0 → d ≡ zeros d) → x ∷ d ≡ zeros (x ∷ d)
+    go : Dec (x ≡ 0) → (weight d ≤ 0 → d ≡ zerosLike d) → x ∷ d ≡ zerosLike (x ∷ d)
     go (yes e) r = head-zero x d e (r (omega (arith, unlike-same x 0 e)))
     go (no n) r = absurd (omega (arith, unlike-other x 0 n))
 
@@ -42,7 +42,7 @@ sum-zeros j zero = refl
 sum-zeros j (suc n) = ap₂ bitXor (mul-zero-l (power (j * length (replicate n 0)))) (sum-zeros j n)
 
 abbrev Light : ℕ → Type 0
-Light J = (d : List ℕ) → Bytes d → length d ≤ 255 → weight d ≤ J → Codeword J d → d ≡ zeros d
+Light J = (d : List ℕ) → Bytes d → length d ≤ 255 → weight d ≤ J → Codeword J d → d ≡ zerosLike d
 
 lighter : (J : ℕ) → Light J → Light (suc J)
 unfolding sum weight
@@ -67,16 +67,16 @@ lighter J ih (x ∷ d) h l w s = go (ℕ-discrete x 0) (lighter J ih d (λ i. h 
     never : (x ≡ 0 → ⊥) → ⊥
     never nz =
         let t : List ℕ = twist (power (length d)) d in
-        let z : t ≡ zeros t =
+        let z : t ≡ zerosLike t =
         ih t (bytes-twist (power (length d)) d (power-lt (length d)) (λ i. h (suc i)))
         (omega (arith, length-twist (power (length d)) d))
         (omega (arith, weight-twist (power (length d)) d, unlike-other x 0 nz)) twisted in
-        let y : d ≡ zeros d =
+        let y : d ≡ zerosLike d =
         untwist (length d) d (omega arith) (omega arith) (λ i. h (suc i))
         (z ∙ ap (λ (k : ℕ). replicate k 0) (length-twist (power (length d)) d)) in
         nz (sym (times-none x (length d)) ∙ sym (rest 0 (omega arith)) ∙ ap (sum 0) y ∙ sum-zeros 0 (length d))
 
-    go : Dec (x ≡ 0) → (weight d ≤ suc J → Codeword (suc J) d → d ≡ zeros d) → x ∷ d ≡ zeros (x ∷ d)
+    go : Dec (x ≡ 0) → (weight d ≤ suc J → Codeword (suc J) d → d ≡ zerosLike d) → x ∷ d ≡ zerosLike (x ∷ d)
     go (yes e) r =
         head-zero x d e
         (r (omega (arith, unlike-same x 0 e))

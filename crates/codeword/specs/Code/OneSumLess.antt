@@ -18,10 +18,10 @@ use Rattle.field.specs.Field.Product.{mul-swap, mul-byte, mul-domain, mul-power
 use Rattle.codeword.specs.Code.{sum, weight}
 use Rattle.codeword.specs.Code.Changes.{unlike-same, unlike-other, unlike-le}
 
-abbrev pub zeros : List ℕ → List ℕ
-zeros d = replicate (length d) 0
+abbrev pub zerosLike : List ℕ → List ℕ
+zerosLike d = replicate (length d) 0
 
-pub head-zero : (x : ℕ) (d : List ℕ) → x ≡ 0 → d ≡ zeros d → x ∷ d ≡ zeros (x ∷ d)
+pub head-zero : (x : ℕ) (d : List ℕ) → x ≡ 0 → d ≡ zerosLike d → x ∷ d ≡ zerosLike (x ∷ d)
 head-zero x d e f = ap₂ _∷_ e f
 
 -- ---- each byte times (its weight + c)
@@ -74,12 +74,12 @@ sum-twist j c (b ∷ d) hc h =
     ∙ ap (bitXor (bitXor (mul b (power (suc j * n))) (sum (suc j) d))) (sym (mul-xor (mul b (power (j * n))) (sum j d) c))
 
 -- where the weights differ from c, only zeros become zeros
-pub untwist : (n : ℕ) (d : List ℕ) → n < 255 → length d ≤ n → Bytes d → twist (power n) d ≡ zeros d → d ≡ zeros d
+pub untwist : (n : ℕ) (d : List ℕ) → n < 255 → length d ≤ n → Bytes d → twist (power n) d ≡ zerosLike d → d ≡ zerosLike d
 unfolding twist
 untwist n [] hn l h z = refl
 untwist n (b ∷ d) hn l h z =
     let p : mul b (bitXor (power (length d)) (power n)) ≡ 0 = cc in
-    let q : twist (power n) d ≡ zeros d = cc in
+    let q : twist (power n) d ≡ zerosLike d = cc in
     head-zero b d
     (mul-domain b (bitXor (power (length d)) (power n)) (h 0) (xor-lt 8 (power (length d)) (power n) (power-lt (length d)) (power-lt n))
     (λ e. other (power-inj (length d) n (omega arith) hn (xor-equal (power (length d)) (power n) e))) p)

@@ -9,9 +9,9 @@ use native.Mathlib.Omega.{arith}
 use lib.ListN.{length, getD, length-append}
 use Rattle.bits.specs.Bits.Packed.{length-unpack}
 use Rattle.bits.specs.Binary.{Binary}
-use Rattle.bits.specs.Binary.Parts.{binary-append}
+use Rattle.bits.specs.Binary.Parts.{binary-append, binary-unpack}
 use Rattle.crc.specs.Crc.{crc}
-use Rattle.crc.specs.Crc.Bits.{binary-unpack, length-crc, binary-crc}
+use Rattle.crc.specs.Crc.Bits.{length-crc, binary-crc}
 use Rattle.control.specs.declared.Control.{Control}
 use Rattle.control.specs.Channels.{fieldBits, qChannel, pBit, framed, controlBytes}
 use Rattle.control.specs.FieldBytes.{fieldBytes}

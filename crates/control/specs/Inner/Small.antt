@@ -45,12 +45,12 @@ track-lt n h =
     none (suc n) z p = omega arith
 
 -- each element of a list is a byte
-Each : List ℕ → Type 0
-Each [] = Unit {0}
-Each (b ∷ bs) = (b < 256) × Each bs
+EachByte : List ℕ → Type 0
+EachByte [] = Unit {0}
+EachByte (b ∷ bs) = (b < 256) × EachByte bs
 
-each-bytes : (w : List ℕ) → Each w → Bytes w
-unfolding Each
+each-bytes : (w : List ℕ) → EachByte w → Bytes w
+unfolding EachByte
 each-bytes [] h = bytes-nil
 each-bytes (b ∷ w) h = bytes-cons b w (h .0) (each-bytes w (h .1))
 
@@ -69,7 +69,7 @@ small t h =
     }
 
 nine : (a b : ℕ) (t : ControlTime) (x y z : ℕ) → a < 256 → b < 256 → inRange t ≡ true → x < 256 → y < 256 → z < 256 → Bytes (nineFields a b t x y z)
-unfolding Each
+unfolding EachByte
 nine a b t x y z ha hb ht hx hy hz =
     let s = small t ht in
     each-bytes (nineFields a b t x y z) (ha, (hb, (s .first, (s .second, (s .third, (omega arith, (hx, (hy, (hz, tt)))))))))
@@ -85,7 +85,7 @@ item-bytes (LastTrack n) t h ht = nine 0 0xA1 t n 0 0 (omega arith) (omega arith
 item-bytes (LeadOutTrack at) t h ht = timed 0 0xA2 t at (omega arith) (omega arith) ht h
 
 catalog-bytes : (n frac : ℕ) → frac < 256 → Bytes (catalogBytes n frac)
-unfolding Each
+unfolding EachByte
 catalog-bytes n frac h =
     each-bytes (catalogBytes n frac)
     (omega arith, (omega arith, (omega arith, (omega arith, (omega arith, (omega arith, (omega arith, (omega arith, (h, tt)))))))))

@@ -11,7 +11,8 @@ use Rattle.outcome.specs.Table.Entries.{length-tabulated, tabulated-at}
 use Rattle.bits.specs.Bits.{unpack, pack}
 use Rattle.bits.specs.Bits.Packed.{unpack-append, unpack-pack}
 use Rattle.crc.specs.Crc.{crc}
-use Rattle.crc.specs.Crc.Bits.{binary-unpack, length-crc, binary-crc}
+use Rattle.bits.specs.Binary.Parts.{binary-unpack}
+use Rattle.crc.specs.Crc.Bits.{length-crc, binary-crc}
 use Rattle.control.specs.declared.Control.{Control}
 use Rattle.control.specs.Channels.{qChannel, pBit, framed, controlBytes}
 use Rattle.control.specs.FieldBytes.{fieldBytes}

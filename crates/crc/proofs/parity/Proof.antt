@@ -5,7 +5,8 @@ use Prim.Native.Nat.{ℕ}
 use borrow.Author.Needs.{needs}
 use lib.ListN.{replicate}
 use Rattle.bits.specs.Bits.{unpack}
-use Rattle.crc.specs.Crc.Bits.{binary-unpack, parity-crc}
+use Rattle.bits.specs.Binary.Parts.{binary-unpack}
+use Rattle.crc.specs.Crc.Bits.{parity-crc}
 use Rattle.crc.specs.Inner.Register.{steps, two-zeros}
 use Rattle.crc.proofs.parity.Statement.{statement}
 use Rattle.crc.proofs.parity.Tie as tie

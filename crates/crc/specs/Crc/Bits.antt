@@ -12,7 +12,6 @@ use Rattle.bits.specs.Bits.Numbers.{bits-split, bits-low, bits-number, number-l
 use Rattle.bits.specs.Bits.Packed.{packed}
 use Rattle.bits.specs.Binary.{Binary}
 use Rattle.bits.specs.Binary.Parts.{binary-append}
-use Rattle.division.specs.Polynomial.Bytes.{coefs-unpack}
 use Rattle.division.specs.Polynomial.Lengths.{coefs-zeros}
 use Rattle.division.specs.Division.{divided, remainder, check}
 use Rattle.crc.specs.Crc.{checkPolynomial, inverted, crc}
@@ -41,11 +40,6 @@ number-inverted a b (c ∷ cs) h =
   where
     twice : (n : ℕ) → 2 * 2 ^ n ≡ 2 ^ suc n
     twice n = omega (arith, pow-suc 2 n)
-
--- ---- the bits of bytes
-
-pub binary-unpack : (xs : List ℕ) → Binary (unpack xs)
-binary-unpack = coefs-unpack
 
 -- ---- what is left
 

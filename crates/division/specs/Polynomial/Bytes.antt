@@ -1,22 +1,17 @@
--- The polynomial of bytes, the most significant bit of each byte first, and bytes of a polynomial.
+-- Bytes of a polynomial, the most significant bit of each byte first.
 -- Assumes nothing.
 use mathlib.Core.Path.{_≡_}
-use mathlib.Core.List.{List, [], _∷_}
+use mathlib.Core.List.{List}
 use Prim.Native.Nat.{ℕ, zero, suc, _*_, _<_}
 use native.Mathlib.Omega.{arith}
 use lib.ListN.{length, take, drop, length-drop}
 use lib.Seq.{length-take-le}
 use Rattle.outcome.specs.Bytes.{Bytes}
 use Rattle.outcome.specs.Bytes.Kept.{bytes-nil, bytes-cons}
-use Rattle.bits.specs.Bits.{bitsOf, number, unpack, pack}
+use Rattle.bits.specs.Bits.{number, pack}
 use Rattle.bits.specs.Bits.Numbers.{number-lt}
-use Rattle.bits.specs.Binary.Parts.{binary-append, binary-bits, binary-take, binary-drop}
+use Rattle.bits.specs.Binary.Parts.{binary-take, binary-drop}
 use Rattle.division.specs.Polynomial.{Coefficients}
-
-pub coefs-unpack : (bytes : List ℕ) → Coefficients (unpack bytes)
-unfolding unpack
-coefs-unpack [] = tt
-coefs-unpack (b ∷ bytes) = binary-append (bitsOf 8 b) (unpack bytes) (binary-bits 8 b) (coefs-unpack bytes)
 
 pub bytes-pack : (n : ℕ) (cs : List ℕ) → Coefficients cs → length cs ≡ 8 * n → Bytes (pack n cs)
 unfolding pack

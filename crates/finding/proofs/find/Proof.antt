@@ -9,7 +9,7 @@ use lib.ListN.{length, replicate}
 use Rattle.outcome.specs.Say.{cleared}
 use Rattle.alignment.specs.Row.Counted.{row-whole, row-most}
 use Rattle.alignment.specs.Found.WaysOut.{room-is, on-incoming, on-outgoing, on-none, on-found}
-use Rattle.finding.proofs.Standing.{n-found}
+use Rattle.finding.proofs.SyncInFrames.{n-found}
 use Rattle.finding.proofs.find.Statement.{statement}
 use Rattle.finding.proofs.find.Tie as tie
 

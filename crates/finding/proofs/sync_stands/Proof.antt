@@ -1,7 +1,7 @@
 -- `finding::sync_stands` meets its contract: Sync stands in order where it stands exchanged (`stands`).
 -- Assumes nothing.
 use mathlib.Core.Path.{_∙_}
-use Rattle.finding.proofs.Standing.{stands}
+use Rattle.finding.proofs.SyncInFrames.{stands}
 use borrow.Author.Needs.{needs}
 use Rattle.finding.proofs.sync_stands.Statement.{statement}
 use Rattle.finding.proofs.sync_stands.Tie as tie

@@ -10,7 +10,8 @@ use Rattle.outcome.specs.Bytes.{Bytes}
 use Rattle.bits.specs.Bits.{unpack}
 use Rattle.bits.specs.Bits.Packed.{length-unpack, unpack-append, packed, unpack-pack, length-pack}
 use Rattle.division.specs.Polynomial.{Coefficients, isZero}
-use Rattle.division.specs.Polynomial.Bytes.{coefs-unpack, bytes-pack}
+use Rattle.bits.specs.Binary.Parts.{binary-unpack}
+use Rattle.division.specs.Polynomial.Bytes.{bytes-pack}
 use Rattle.division.specs.Polynomial.Lengths.{coefs-powers}
 use Rattle.division.specs.Polynomial.Zeros.{zero-is, is-zero}
 use Rattle.division.specs.Division as whole
@@ -72,7 +73,7 @@ pub edc-one : (bytes t : List ℕ) → length t ≡ 4 → Bytes t → Divisible 
 unfolding edc remainder
 edc-one bytes t l h z =
     packed 4 t (check divisor (unpack bytes)) h l
-    (check-one 32 divisor length-divisor coefs-divisor (unpack bytes) (unpack t) (coefs-unpack t) (omega (arith, length-unpack t))
+    (check-one 32 divisor length-divisor coefs-divisor (unpack bytes) (unpack t) (binary-unpack t) (omega (arith, length-unpack t))
     (ap (whole.remainder divisor) (sym (unpack-append bytes t)) ∙ z))
 
 -- ---- four or more bytes are divisible exactly where their polynomial is a multiple of G(x)
@@ -80,7 +81,7 @@ edc-one bytes t l h z =
 pub divisible-multiple : (bytes : List ℕ) → 4 ≤ length bytes → Divisible bytes → Multiple divisor (unpack bytes)
 unfolding remainder divisor
 divisible-multiple bytes l =
-    zero-product 32 divisor (omega arith) length-divisor coefs-divisor refl (unpack bytes) (coefs-unpack bytes) (omega (arith, length-unpack bytes))
+    zero-product 32 divisor (omega arith) length-divisor coefs-divisor refl (unpack bytes) (binary-unpack bytes) (omega (arith, length-unpack bytes))
 
 pub multiple-divisible : (bytes : List ℕ) → Multiple divisor (unpack bytes) → Divisible bytes
 unfolding remainder divisor

@@ -25,9 +25,9 @@ pub record Right (i : ℕ) (a b : List ℕ) (c : Change) : Type 0 where
   pub is-there : getD b offset 0 ≡ c .is
   pub unlike : c .was ≡ c .is → ⊥
 
-pub data Each (P : Change → Type 0) : List Change → Type 0 where
-  all-none : Each P []
-  all-next : {c : Change} {l : List Change} → P c → Each P l → Each P (c ∷ l)
+pub data EachChange (P : Change → Type 0) : List Change → Type 0 where
+  all-none : EachChange P []
+  all-next : {c : Change} {l : List Change} → P c → EachChange P l → EachChange P (c ∷ l)
 
 -- one of them is at position p
 pub data Has (p : ℕ) : List Change → Type 0 where
@@ -72,12 +72,12 @@ right-later i x y a b c r =
       unlike = r .unlike;
     }
 
-each-later : (i x y : ℕ) (a b : List ℕ) {l : List Change} → Each (Right (suc i) a b) l → Each (Right i (x ∷ a) (y ∷ b)) l
+each-later : (i x y : ℕ) (a b : List ℕ) {l : List Change} → EachChange (Right (suc i) a b) l → EachChange (Right i (x ∷ a) (y ∷ b)) l
 each-later i x y a b all-none = all-none
 each-later i x y a b (all-next {c = c} r e) = all-next (right-later i x y a b c r) (each-later i x y a b e)
 
 -- each is true
-pub listed-right : (i : ℕ) (a b : List ℕ) → Each (Right i a b) (listed i a b)
+pub listed-right : (i : ℕ) (a b : List ℕ) → EachChange (Right i a b) (listed i a b)
 unfolding listed
 listed-right i [] b = all-none
 listed-right i (x ∷ a) [] = all-none
@@ -88,8 +88,8 @@ listed-right i (x ∷ a) (y ∷ b) = go (eqb x y) refl (each-later i x y a b (li
         let s : eqb x y ≡ true = eq-eqb x y q in
         let z : _≡_ {A = ℕ} 0 1 = cc in omega arith
 
-    go : (t : Bool) → eqb x y ≡ t → Each (Right i (x ∷ a) (y ∷ b)) (listed (suc i) a b)
-        → Each (Right i (x ∷ a) (y ∷ b)) (cond t (listed (suc i) a b) (record { at = i; was = x; is = y } ∷ listed (suc i) a b))
+    go : (t : Bool) → eqb x y ≡ t → EachChange (Right i (x ∷ a) (y ∷ b)) (listed (suc i) a b)
+        → EachChange (Right i (x ∷ a) (y ∷ b)) (cond t (listed (suc i) a b) (record { at = i; was = x; is = y } ∷ listed (suc i) a b))
     go true p e = e
     go false p e =
         all-next {c = record { at = i; was = x; is = y }}

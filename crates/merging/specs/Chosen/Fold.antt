@@ -126,9 +126,9 @@ module _ (ok : List ℕ → Bool) (dsv : List ℕ → ℕ) where
   chosen-header k h t = chosen-is m100 (m000 ∷ []) k h t
 
   -- and nothing else is chosen
-  pub only-word : {m : List ℕ} → Chosen forWord ok dsv m → m ≡ beforeWord ok dsv
-  only-word c = chosen-one c (chosen-word (c .place) (c .stands) (subst (λ (x : List ℕ). T (ok x)) (sym (c .is)) (c .is-allowed)))
+  pub chosen-word-one : {m : List ℕ} → Chosen forWord ok dsv m → m ≡ beforeWord ok dsv
+  chosen-word-one c = chosen-one c (chosen-word (c .place) (c .stands) (subst (λ (x : List ℕ). T (ok x)) (sym (c .is)) (c .is-allowed)))
 
   -- before a Sync Header neither
-  pub only-header : {m : List ℕ} → Chosen forHeader ok dsv m → m ≡ beforeHeader ok dsv
-  only-header c = chosen-one c (chosen-header (c .place) (c .stands) (subst (λ (x : List ℕ). T (ok x)) (sym (c .is)) (c .is-allowed)))
+  pub chosen-header-one : {m : List ℕ} → Chosen forHeader ok dsv m → m ≡ beforeHeader ok dsv
+  chosen-header-one c = chosen-one c (chosen-header (c .place) (c .stands) (subst (λ (x : List ℕ). T (ok x)) (sym (c .is)) (c .is-allowed)))

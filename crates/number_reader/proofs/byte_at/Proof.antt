@@ -1,7 +1,7 @@
 -- `number_reader::byte_at` meets its contract: each way out is a law of `Standing`.
 -- Assumes nothing.
 use borrow.Author.Needs.{needs}
-use Rattle.number_reader.proofs.Standing.{byte-behind, byte-there}
+use Rattle.number_reader.proofs.NumberShown.{byte-behind, byte-there}
 use Rattle.number_reader.proofs.byte_at.Statement.{statement}
 use Rattle.number_reader.proofs.byte_at.Tie as tie
 

@@ -1,6 +1,6 @@
 -- `number_reader::number_at` meets its contract: each way out is a law of `Standing`.
 -- Assumes nothing.
-use Rattle.number_reader.proofs.Standing.{none-end, stands-1, stands-2, stands-3, none-two, none-three, none-above}
+use Rattle.number_reader.proofs.NumberShown.{none-end, stands-1, stands-2, stands-3, none-two, none-three, none-above}
 use borrow.Author.Needs.{needs}
 use Rattle.number_reader.proofs.number_at.Statement.{statement}
 use Rattle.number_reader.proofs.number_at.Tie as tie

@@ -17,7 +17,7 @@ use Rattle.merging.specs.Rule.{syncHeaderBits, starts}
 use Rattle.replaying.specs.Replay.{channel, firstHeader, framesFrom, bytesFor, packed, framesOf}
 use Rattle.replaying.specs.Replay.Sizes.{Legal}
 use Rattle.replaying.specs.Replay.Edges.{header-here}
-use Rattle.stream_rules.specs.Offences.Stream.{binary-unpack}
+use Rattle.bits.specs.Binary.Parts.{binary-unpack}
 use Rattle.stream_rules.specs.Accepted.{Kept}
 use Rattle.section_edges.specs.Edges.{gapsOf, Ticks}
 use Rattle.section_edges.specs.Edges.Bits.{gaps-channel, gaps-legal}

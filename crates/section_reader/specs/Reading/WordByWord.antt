@@ -9,7 +9,7 @@ use lib.ListN.{take, drop}
 use Rattle.outcome.specs.Table.{tabulated}
 use Rattle.outcome.specs.Table.Entries.{tabulated-same}
 use Rattle.channel_frame.specs.ChannelFrame.{headless, wordByte, wordMark, frameByte, frameMark}
-use Rattle.channel_frame.specs.ChannelFrame.Standing.{byte-standing, mark-standing}
+use Rattle.channel_frame.specs.ChannelFrame.HeaderThere.{byte-standing, mark-standing}
 use Rattle.section_reader.specs.Reading.{byteRead, markRead, bytesRead, marksRead}
 use Rattle.section_reader.specs.Reading.Places.{bytes-of-frame, marks-of-frame}
 

@@ -22,7 +22,7 @@ use Rattle.section_writer.specs.declared.SectionWriter.{SectionWriter}
 use Rattle.section_reader.specs.ReadSay.{readSay, sectionRead}
 use Rattle.word_marks.specs.Marks.{byteFor, markFor}
 use Rattle.section_reader.specs.Reading.{byteRead, markRead, bytesRead, marksRead}
-use Rattle.channel_frame.specs.ChannelFrame.Standing.{byte-standing, mark-standing}
+use Rattle.channel_frame.specs.ChannelFrame.HeaderThere.{byte-standing, mark-standing}
 use Rattle.section_frames.specs.Section.{wordAt}
 use Rattle.section_writer.specs.State.{right}
 use Rattle.section_writer.specs.WriteSay.{section, written, writeSay}

@@ -19,7 +19,7 @@ use Rattle.fields.specs.Fields.{fieldAt}
 use Rattle.channel_frame.specs.ChannelFrame.{wordRead}
 use Rattle.stream_rules.specs.Offences.{headerOffends, rightWord, wordPlace, wordOffends}
 use Rattle.stream_rules.specs.Offences.RunRule.{runs-if-clean, clean-if-runs}
-use Rattle.stream_rules.specs.Offences.Stream.{binary-unpack}
+use Rattle.bits.specs.Binary.Parts.{binary-unpack}
 use Rattle.stream_rules.specs.Judging.{rightLength, judging}
 use Rattle.stream_rules.specs.Judging.First.{NoOffence, wrong-length, done-clean, clean-done}
 use Rattle.stream_rules.specs.Accepted.{Kept, Accepted}

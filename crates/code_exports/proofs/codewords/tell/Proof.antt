@@ -3,9 +3,9 @@
 use mathlib.Core.Path.{sym, ap, ap₂, _∙_}
 use mathlib.Core.List.{_∷_}
 use borrow.Author.Needs.{needs}
-use Rattle.exports.specs.Verdicts.{toldOf}
-use Rattle.exports.proofs.codewords.tell.Statement.{statement}
-use Rattle.exports.proofs.codewords.tell.Tie as tie
+use Rattle.code_exports.specs.Verdicts.{toldOf}
+use Rattle.code_exports.proofs.codewords.tell.Statement.{statement}
+use Rattle.code_exports.proofs.codewords.tell.Tie as tie
 
 enum-told : tie.Need-enum-told
 enum-told c = search needs

@@ -9,8 +9,8 @@ use Rattle.outcome.specs.Say.{Say}
 use Rattle.calls.specs.Step.{Step, step}
 use Rattle.section_writer.specs.declared.SectionWriter.{SectionWriter}
 use Rattle.section_writer.specs.WriteSay.{written}
-use Rattle.road_exports.proofs.section_writing.road_write_section.Statement.{statement}
-use Rattle.road_exports.proofs.section_writing.road_write_section.Tie as tie
+use Rattle.section_exports.proofs.section_writing.road_write_section.Statement.{statement}
+use Rattle.section_exports.proofs.section_writing.road_write_section.Tie as tie
 
 -- a signed number that was stored and read again is that number, in the state before the step and in the state after it
 stored : (writes : SectionWriter → Step SectionWriter) (dsv dsv′ level level′ next-dsv next-level : ℤ) (sections : ℕ) (say : Say) (next : SectionWriter) (out : List ℕ)

@@ -1,4 +1,5 @@
--- The parity that is told is the only one: a promise that speaks of a codeword allows one answer.
+-- The parity that is told is the only one: a promise that speaks of a codeword allows one answer. The other exports promise an equation for all that they hand back, or
+-- name one thing (the inverse of a byte: field, `inverse-of-one`).
 -- Assumes nothing.
 use mathlib.Core.Path.{_≡_}
 use mathlib.Core.List.{List, _++_}

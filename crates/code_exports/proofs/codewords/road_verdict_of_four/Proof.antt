@@ -2,9 +2,9 @@
 -- Assumes nothing.
 use borrow.Author.Needs.{needs}
 use mathlib.Core.Path.{ap, _∙_}
-use Rattle.exports.specs.Verdicts.{toldOf}
-use Rattle.exports.proofs.codewords.road_verdict_of_four.Statement.{statement}
-use Rattle.exports.proofs.codewords.road_verdict_of_four.Tie as tie
+use Rattle.code_exports.specs.Verdicts.{toldOf}
+use Rattle.code_exports.proofs.codewords.road_verdict_of_four.Statement.{statement}
+use Rattle.code_exports.proofs.codewords.road_verdict_of_four.Tie as tie
 
 verdict-of-four-requires : tie.Need-verdict-of-four-requires
 verdict-of-four-requires c κs = search needs

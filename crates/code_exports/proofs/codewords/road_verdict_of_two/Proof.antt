@@ -2,9 +2,9 @@
 -- Assumes nothing.
 use borrow.Author.Needs.{needs}
 use mathlib.Core.Path.{ap, _∙_}
-use Rattle.exports.specs.Verdicts.{toldOf}
-use Rattle.exports.proofs.codewords.road_verdict_of_two.Statement.{statement}
-use Rattle.exports.proofs.codewords.road_verdict_of_two.Tie as tie
+use Rattle.code_exports.specs.Verdicts.{toldOf}
+use Rattle.code_exports.proofs.codewords.road_verdict_of_two.Statement.{statement}
+use Rattle.code_exports.proofs.codewords.road_verdict_of_two.Tie as tie
 
 verdict-of-two-requires : tie.Need-verdict-of-two-requires
 verdict-of-two-requires c κs = search needs

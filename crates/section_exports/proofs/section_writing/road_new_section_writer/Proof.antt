@@ -4,8 +4,8 @@ use borrow.Author.Needs.{needs}
 use mathlib.Core.Path.{_≡_, ap, _∙_}
 use Rattle.section_writer.specs.State.{fresh}
 use Rattle.section_writer.specs.declared.SectionWriter.{SectionWriter}
-use Rattle.road_exports.proofs.section_writing.road_new_section_writer.Statement.{statement}
-use Rattle.road_exports.proofs.section_writing.road_new_section_writer.Tie as tie
+use Rattle.section_exports.proofs.section_writing.road_new_section_writer.Statement.{statement}
+use Rattle.section_exports.proofs.section_writing.road_new_section_writer.Tie as tie
 
 new-requires : tie.Need-new-requires
 new-requires c κs = search needs

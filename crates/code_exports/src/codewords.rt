@@ -5,7 +5,7 @@ ghost use lib.ListN.{take, drop};
 ghost use Rattle.codeword.specs.Nearest.{verdict};
 ghost use Rattle.codeword.specs.Parity.{Parity};
 ghost use Rattle.filling.specs.Fill.{Fills};
-ghost use Rattle.exports.specs.Verdicts.{toldOf};
+ghost use Rattle.code_exports.specs.Verdicts.{toldOf};
 use codeword::Verdict;
 use told::tell_two;
 

@@ -1,0 +1,4 @@
+-- what a verdict says
+pub mod Verdicts
+-- the parity that is told is the only one
+pub mod Parities
