@@ -12,10 +12,10 @@ pub fn at(path: &str) -> PathBuf {
     Path::new(env!("CARGO_MANIFEST_DIR")).join(path)
 }
 
-/// The proved program with this name, which `rt check` builds.
+/// The proved program with this name, which `rt run` builds.
 pub fn program(name: &str) -> Command {
-    let path = at("../target/bin").join(name);
-    assert!(path.exists(), "{} is missing: run `rt check {name}`", path.display());
+    let path = at("../crates").join(name).join("out").join(name);
+    assert!(path.exists(), "{} is missing: run `tools/build`", path.display());
     let mut program = Command::new(path);
     program.stdout(Stdio::piped()).stderr(Stdio::piped());
     program

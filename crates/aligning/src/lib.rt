@@ -1,4 +1,5 @@
 // Writing 1 to 16 scrambled Sectors with byte 0 of the first in byte 4n of a frame (clause 16; document 02, §11).
+#![tactic(auto)]
 ghost use Rattle.std.specs.Prelude.{◌≡◌, true, ◌+◌, ◌*◌, ◌/◌, ◌≤◌, length};
 ghost use Rattle.outcome.specs.Say.{outcome};
 ghost use Rattle.alignment.specs.Row.{is_row};
@@ -6,7 +7,7 @@ ghost use Rattle.alignment.specs.Aligned.{frames_for, aligned, aligning};
 ghost use Rattle.aligning.specs.AlignSay.{say_of};
 
 // What `align` answers.
-#[derive(Drop)]
+#[derive(Clone, Copy)]
 pub enum Aligned {
     Done,
     WrongIncoming,

@@ -1,4 +1,5 @@
 // Repair of 1 to 16 Sectors in one call (document 02, §2).
+#![tactic(auto)]
 ghost use Rattle.std.specs.Prelude.{◌≡◌, ◌<◌, length, replicate, set};
 ghost use Rattle.outcome.specs.Say.{cleared};
 ghost use Rattle.batch.specs.Sectors.{Sectors};
@@ -8,7 +9,7 @@ ghost use Rattle.batch.specs.Inner.Counted.{Counted};
 use repair::Repaired;
 
 // What a batch answers: how many Sectors were taken, or why none was.
-#[derive(Drop)]
+#[derive(Clone, Copy)]
 pub enum Answer {
     Done(usize),
     WrongIncoming,
@@ -16,13 +17,13 @@ pub enum Answer {
 }
 
 // What becomes of one Sector: what a single repair says of it. A struct, because an array in a struct cannot hold enums.
-#[derive(Drop)]
+#[derive(Clone, Copy)]
 pub struct SectorFate {
     pub repaired: Repaired,
 }
 
 // The answer, and the fates of the Sectors in order; behind them stand fates of no Sector.
-#[derive(Drop)]
+#[derive(Clone, Copy)]
 pub struct Batch {
     pub answer: Answer,
     pub fates: [SectorFate; 16],

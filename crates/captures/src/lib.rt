@@ -1,1 +1,2 @@
 // Edge captures (document 02, §5): definitions and laws only.
+#![tactic(auto)]

@@ -1,4 +1,5 @@
 // Carrying the Main Data of 1 to 16 Data Frames over into Sectors of Mode 01 (document 02, §14).
+#![tactic(auto)]
 ghost use Rattle.std.specs.Prelude.{◌≡◌, true, ◌*◌, length, replicate};
 ghost use Rattle.address.specs.Address.{in_range};
 ghost use Rattle.address_counting.specs.Count.{room};
@@ -9,7 +10,7 @@ ghost use Rattle.carrying.specs.Inner.Numbers.{Counted};
 use address::HeaderTime;
 
 // What becomes of a call.
-#[derive(Drop)]
+#[derive(Clone, Copy)]
 pub enum Carrying {
     Done,
     WrongIncoming,

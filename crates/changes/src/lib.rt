@@ -1,4 +1,5 @@
 // How many bytes changed.
+#![tactic(auto)]
 ghost use Rattle.std.specs.Prelude.{◌≡◌, cond, eqb, min};
 ghost use Rattle.codeword.specs.Code.{changes};
 

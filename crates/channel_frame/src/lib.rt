@@ -1,10 +1,11 @@
 // Reading one Channel Frame of a Section (clause 19): 588 Channel bits become 33 bytes and 33 marks.
+#![tactic(auto)]
 ghost use Rattle.channel_frame.specs.FrameRead.{FrameRead};
 ghost use Rattle.channel_frame.specs.Inner.{FrameWanted};
 
 // What reading a frame answers: its bytes and marks are there, or none are, because no Sync Header stands where it should begin or because there
 // is no such frame, or no room for it.
-#[derive(Drop)]
+#[derive(Clone, Copy)]
 pub enum Frame {
     Read,
     NoHeader,

@@ -1,4 +1,5 @@
 // The choice of all Merging bits of a Channel Frame: its 33 words, each after its Merging bits, and the Merging bits before the next Sync Header.
+#![tactic(auto)]
 ghost use Rattle.std.specs.Prelude.{◌≡◌};
 ghost use Rattle.choosing.specs.Choices.{frame_choice};
 
@@ -7,7 +8,7 @@ use traces::Tally;
 mod word;
 
 // The 33 words of a frame with their Merging bits, 17 bits each; the Merging bits before the next Sync Header; and the tally after them.
-#[derive(Drop)]
+#[derive(Clone, Copy)]
 pub struct FrameChoice {
     pub words: [u32; 33],
     pub tail: u32,

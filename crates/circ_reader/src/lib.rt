@@ -1,5 +1,6 @@
 // The CIRC reader (clause 17, Annex C; document 02, §7): F2-frames of 32 bytes, each with its mark, become F1-frames of 24 again. Its state is the bytes and
 // marks that wait, in rings in one flat store (document 02, §9), and a place for each row that waits: a mark is at its byte's place.
+#![tactic(auto)]
 ghost use Rattle.std.specs.Prelude.{◌≡◌, [], ◌∷◌, ◌++◌, ◌≤◌, length};
 ghost use Rattle.outcome.specs.Say.{done, cleared};
 ghost use Rattle.lines.specs.Delay.{zeros};
@@ -15,14 +16,14 @@ mod ring_lengths;
 use ring_lengths::RING_LENGTHS;
 
 // 16 bytes in as many rows wait before C1 and 1,512 in 27 between C1 and C2, each with its mark, and 24 bytes and two doubts in 13 after C2. Any mark but 0 marks.
-#[derive(Drop)]
+#[derive(Clone, Copy)]
 pub struct CircReader {
     pub store: [u8; 3082],
     pub places: [u8; 56],
 }
 
 // The 24 bytes are sure, or in doubt because for a C2 word that they came from no codeword was found.
-#[derive(Drop)]
+#[derive(Clone, Copy)]
 pub enum ReaderAnswer {
     Sure,
     InDoubt,
@@ -31,7 +32,7 @@ pub enum ReaderAnswer {
     WrongPlace,
 }
 
-#[derive(Drop)]
+#[derive(Clone, Copy)]
 pub struct ReaderStep {
     pub next: CircReader,
     pub answer: ReaderAnswer,

@@ -1,5 +1,6 @@
 // The CIRC writer (clause 17, Annex C): F1-frames of 24 bytes become F2-frames of 32. Its state is the bytes that wait, in
 // rings in one flat store (document 02, §9), and a place for each row that waits.
+#![tactic(auto)]
 ghost use Rattle.std.specs.Prelude.{◌≡◌};
 ghost use Rattle.circ.specs.Chains.{fresh_writer};
 ghost use Rattle.circ_writer.specs.Answers.{say_of};
@@ -14,13 +15,13 @@ mod ring_lengths;
 use ring_lengths::RING_LENGTHS;
 
 // 24 bytes in 12 rows wait before C2, 1,512 in 27 between C2 and C1, and 16 in as many after C1.
-#[derive(Drop)]
+#[derive(Clone, Copy)]
 pub struct CircWriter {
     pub store: [u8; 1552],
     pub places: [u8; 55],
 }
 
-#[derive(Drop)]
+#[derive(Clone, Copy)]
 pub enum WriterAnswer {
     Written,
     WrongIncoming,
@@ -40,7 +41,7 @@ pub fn number(a: WriterAnswer) -> u8
     }
 }
 
-#[derive(Drop)]
+#[derive(Clone, Copy)]
 pub struct WriterStep {
     pub next: CircWriter,
     pub answer: WriterAnswer,

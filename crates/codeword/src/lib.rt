@@ -1,8 +1,9 @@
 // Codewords over the field of 256 elements (Annex A, Annex C.7): definitions and laws, and what is said of a word; `word_sums`, `word_parity`, `faults` and `verdicts`
 // have the code.
+#![tactic(auto)]
 
 // What the sums of a word say: nothing is wrong; one byte is, at a place, and what is to be added to it; or no codeword is near.
-#[derive(Drop)]
+#[derive(Clone, Copy)]
 pub enum Fault {
     Clean,
     At(usize, u8),
@@ -10,7 +11,7 @@ pub enum Fault {
 }
 
 // What to do with a word: nothing; one byte to change, its place and its new value; or no codeword is near.
-#[derive(Drop)]
+#[derive(Clone, Copy)]
 pub enum Verdict {
     Clean,
     Change(usize, u8),
@@ -18,5 +19,5 @@ pub enum Verdict {
 }
 
 // Two bytes of one kind: the sums of a word with j = 0 and 1, or parity in the order in which it stands in a word.
-#[derive(Drop)]
+#[derive(Clone, Copy)]
 pub struct TwoBytes(pub u8, pub u8);

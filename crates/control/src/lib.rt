@@ -1,4 +1,5 @@
 // The fields in the Control bytes of a Section (clause 22), and whether clause 22 allows them.
+#![tactic(auto)]
 ghost use Rattle.std.specs.Prelude.{◌≡◌, ◌&&◌};
 ghost use Rattle.control_time.specs.Elapsed.{in_range};
 ghost use Rattle.control.specs.Fields.{track_number, decimal_digits, allowed_item, allowed_data, allowed};
@@ -6,14 +7,14 @@ ghost use Rattle.control.specs.Fields.{track_number, decimal_digits, allowed_ite
 use control_time::ControlTime;
 
 // Whether the user data of an Information Track may be copied (22.3.1).
-#[derive(Drop)]
+#[derive(Clone, Copy)]
 pub enum Copying {
     Forbidden,
     Permitted,
 }
 
 // An item of the table of contents (22.3.4.2), by what its POINTER field points to.
-#[derive(Drop)]
+#[derive(Clone, Copy)]
 pub enum Item {
     // a track by its number, and where its first Section with Index 01 stands
     Track(u8, ControlTime),
@@ -26,7 +27,7 @@ pub enum Item {
 }
 
 // The q-Mode and q-Data fields (22.3.2 to 22.3.5).
-#[derive(Drop)]
+#[derive(Clone, Copy)]
 pub enum QData {
     // q-Mode 1 in the User Data Area: TNO, INDEX, relative and absolute time
     UserData(u8, u8, ControlTime, ControlTime),
@@ -39,7 +40,7 @@ pub enum QData {
 }
 
 // What the 96 Control bytes of a Section say.
-#[derive(Drop)]
+#[derive(Clone, Copy)]
 pub struct Control {
     // the p bit, which is a ONE in a Flag (22.2)
     pub flag: bool,

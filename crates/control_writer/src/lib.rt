@@ -1,4 +1,5 @@
 // Writing the 96 Control bytes of a Section (clause 22).
+#![tactic(auto)]
 ghost use Rattle.std.specs.Prelude.{◌≡◌, ◌+◌, ◌*◌, ◌∷◌, ◌++◌, length};
 ghost use Rattle.outcome.specs.Say.{outcome};
 ghost use Rattle.bits.specs.Bits.{unpack};
@@ -10,7 +11,7 @@ ghost use Rattle.control_writer.specs.Writing.{say_of, writing};
 use control::{Control, Copying, QData};
 
 // What writing answers.
-#[derive(Drop)]
+#[derive(Clone, Copy)]
 pub enum ControlWritten {
     Done,
     WrongOutgoing,

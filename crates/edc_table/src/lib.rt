@@ -1,4 +1,5 @@
 // The table of the division by the check polynomial (clause 14.3).
+#![tactic(auto)]
 mod table;
 
 ghost use Rattle.std.specs.Prelude.{◌≡◌};

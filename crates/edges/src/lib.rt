@@ -1,9 +1,10 @@
 // The run at an edge of a capture (document 02, §5).
+#![tactic(auto)]
 ghost use Rattle.std.specs.Prelude.{◌≡◌};
 ghost use Rattle.edges.specs.Steps.{step_at};
 
 // The run from an edge to the next, in ticks, or that there is no next.
-#[derive(Drop)]
+#[derive(Clone, Copy)]
 pub enum Step {
     Run(u16),
     End,

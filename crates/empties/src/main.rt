@@ -1,4 +1,7 @@
 // Prints the addresses of the empty Sectors on standard input (document 02, §13).
-fn main() {
-    empty_sectors::print_addresses();
+#![tactic(auto)]
+
+fn main(rt: HostRuntime) {
+    let mut input = rt.stdin();
+    empty_sectors::print_addresses(&rt, &mut input);
 }

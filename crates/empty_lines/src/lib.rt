@@ -1,4 +1,5 @@
 // Whether a Sector is empty, and the line with its address (document 02, §13).
+#![tactic(auto)]
 ghost use Rattle.std.specs.Prelude.{◌≡◌, ◌++◌};
 ghost use Rattle.text.specs.Characters.{ascii};
 ghost use Rattle.text.specs.Report.{time_text};
@@ -9,7 +10,7 @@ use judge::Judged;
 use numerals::hex_digit;
 
 // What is found of a Sector: it is empty, with its address, or it is another.
-#[derive(Drop)]
+#[derive(Clone, Copy)]
 pub enum Found {
     Empty(HeaderTime),
     Other,

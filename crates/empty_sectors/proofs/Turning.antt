@@ -1,25 +1,16 @@
 -- From turn to turn.
 -- Assumes nothing.
-use mathlib.Core.Path.{◌≡◌, refl, sym, ap, ◌∙◌, subst}
-use mathlib.Core.Bool.{Bool, true, false}
-use mathlib.Core.List.{List, [], ◌∷◌, ◌++◌}
-use Prim.Native.Nat.{ℕ, ◌+◌, ◌<◌}
-use native.Mathlib.Omega.{arith}
-use types.Run.{OneOf, miss}
-use denote.Enum.Declared as enum
-use lib.ListN.{length, length-append}
+use Rattle.std.proofs.Common.{◌≡◌, refl, sym, ap, ◌∙◌, subst, Bool, true, false, List, [], ◌∷◌, ◌++◌, ℕ, ◌+◌, ◌<◌, length, length-append, arith}
 use Rattle.input_reading.specs.declared.Filled.{Filled}
 use Rattle.input_reading.specs.declared.Read.{Read}
 use Rattle.input_reading.specs.declared.Read.TheVariants.{Failed, End, More}
 use Rattle.input_reading.specs.Reading.{StoppedAt, Fills}
-use Rattle.input_reading.specs.contracts.Read as read
 use Rattle.empty_lines.specs.declared.Found.{Found}
 use Rattle.empty_sectors.specs.declared.Stand.{Stand}
-use Rattle.empty_sectors.specs.declared.Stand.TheVariants.{Going, Stopped, WriteFailed}
+use Rattle.empty_sectors.specs.declared.Stand.TheVariants.{Going, Stopped}
 use Rattle.empty_lines.specs.Listed.{found_in, line_of}
 use Rattle.empty_sectors.specs.Run.{after_line, Turn, tells, stops, unwritten, begins, goes, Counted, Reached}
 use Rattle.empty_sectors.specs.Inner.Turns.{Sayable, Turned}
-use Rattle.empty_sectors.specs.contracts.Stand as stand
 
 -- ---- one turn
 
@@ -33,17 +24,13 @@ pub said : {line : List ℕ} (w : Bool) (s : Stand) → Sayable line → s ≡ a
 said true s h e = subst (λ (x : Stand). Turned x) (sym e) (record { read = h.read; line = _; turn = h.turn })
 said false s h e = subst (λ (x : Stand). Turned x) (sym e) (record { read = h.read; line = _; turn = unwritten 0 h.turn })
 
--- any read but one that brought something
-abbrev nothing : List ℕ
-nothing = 0 ∷ 1 ∷ []
-
-short : (room have : ℕ) (last : Read) → StoppedAt room have last → OneOf nothing (enum.tag_of read.the_type last) → have < room
-short room have (More n) h k = absurd (miss nothing 2 tt k)
+short : (room have : ℕ) (last : Read) → StoppedAt room have last → ((n : ℕ) → last ≡ More n → ⊥) → have < room
+short room have (More n) h k = absurd (k n refl)
 short room have End h k = h
 short room have Failed h k = h
 
 -- a read that brought nothing ends it
-pub stopped : (room : ℕ) (f : Filled) → room ≡ 2352 → Fills room f → OneOf nothing (enum.tag_of read.the_type f.last) → Turned (Stopped f)
+pub stopped : (room : ℕ) (f : Filled) → room ≡ 2352 → Fills room f → ((n : ℕ) → f.last ≡ More n → ⊥) → Turned (Stopped f)
 stopped room f l h k =
     let less = short room f.have f.last h k in
     record {
@@ -72,17 +59,3 @@ one_more n {s} {t} e r h =
       run = goes g.run h.turn;
       counted = subst (λ (m : ℕ). Counted (m + 1) (g.sectors ++ h.read) t) g.counted (one-turn g.sectors h.turn);
     }
-
--- any stand but that it goes on
-abbrev over : List ℕ
-over = 1 ∷ 2 ∷ []
-
-any_count : (m n : ℕ) (sectors : List (List ℕ)) (s : Stand) → OneOf over (enum.tag_of stand.the_type s) → Counted m sectors s → Counted n sectors s
-any_count m n sectors Going k h = absurd (miss over 0 tt k)
-any_count m n sectors (Stopped f) k h = h
-any_count m n sectors WriteFailed k h = h
-
--- where it does not go on, the number of turns does not matter
-pub over_any : (m n : ℕ) (s : Stand) → OneOf over (enum.tag_of stand.the_type s) → Reached m s → Reached n s
-over_any m n s k r =
-    record { sectors = r.sectors; text = r.text; run = r.run; counted = any_count m n r.sectors s k r.counted }

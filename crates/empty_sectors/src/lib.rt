@@ -1,16 +1,18 @@
-// The addresses of a dump's empty Sectors (document 02, §13), from standard input to standard output. What one read means stands in
+// The addresses of a dump's empty Sectors (document 02, §13), from an input to standard output. What one read means stands in
 // `input_reading`, which Sector has a line and every character of it in `empty_lines`.
+#![tactic(auto)]
+
 ghost use Rattle.std.specs.Prelude.{◌≡◌, length};
 ghost use Rattle.empty_sectors.specs.Run.{after_line, Ended};
 ghost use Rattle.empty_sectors.specs.Inner.Turns.{Sayable, Turned};
 
 use empty_lines::Found;
 use input_reading::{Filled, Read};
-use libc::{STDERR_FILENO, STDOUT_FILENO};
+use std::io;
 
 // Where the program stands: between two Sectors; ended by a read that brought nothing, with so many bytes of a Sector before it; or ended by
 // a write that failed.
-#[derive(Drop)]
+#[derive(Clone, Copy)]
 pub enum Stand {
     Going,
     Stopped(Filled),
@@ -28,41 +30,41 @@ fn after_line(went: bool) -> Stand
 }
 
 // Prints what is printed of a Sector. Only this writes to standard output, and it asks that this is what is printed.
-fn say(line: &[u8]) -> Stand
+fn say(rt: &impl Print, line: &[u8]) -> Stand
     requires { Sayable line.now }
     ensures { Turned result }
 {
-    after_line(io::write_all(STDOUT_FILENO, line))
+    after_line(rt.write_all(line).is_ok())
 }
 
 // Prints the line of a Sector, which only an empty one has.
-fn tell(sector: &[u8]) -> Stand
+fn tell(rt: &impl Print, sector: &[u8]) -> Stand
     requires { length sector.now ≡ 2352 }
     ensures { Turned result }
 {
     let found = empty_lines::find(sector);
     let Found::Empty(time) = found else {
-        return say(b"");
+        return say(rt, b"");
     };
     let line = empty_lines::address_line(time);
-    say(&line)
+    say(rt, &line)
 }
 
 // Reads one Sector, and prints its line.
-fn turn(sector: &mut [u8]) -> Stand
+fn turn<R: io::Read>(rt: &impl Print, input: &mut R, sector: &mut [u8]) -> Stand
     requires { length sector.old ≡ 2352 }
     ensures { Turned result }
 {
-    let filled = input_reading::fill(sector);
+    let filled = input_reading::fill(input, sector);
     let last = filled.last;
     let Read::More(_) = last else {
         return Stand::Stopped(filled);
     };
-    tell(sector)
+    tell(rt, sector)
 }
 
 // All turns. A loop has to end, so it counts them, to the largest number that can be counted.
-fn turns() -> Stand
+fn turns<R: io::Read>(rt: &impl Print, input: &mut R) -> Stand
     ensures { Ended result }
 {
     let mut sector = sector::blank();
@@ -72,52 +74,45 @@ fn turns() -> Stand
         let Stand::Going = stand else {
             return stand;
         };
-        stand = turn(&mut sector);
+        stand = turn(rt, input, &mut sector);
         made += 1;
     }
     stand
 }
 
 // Says on standard error how many bytes were left over, or that reading failed.
-fn complain_of_input(filled: Filled) {
+fn complain_of_input(rt: &impl Eprint, filled: Filled) {
     let last = filled.last;
     match last {
         Read::More(_) => {}
         Read::End => {
             if filled.have != 0 {
-                io::write_all(STDERR_FILENO, b"empties: tail ");
-                io::print_decimal(STDERR_FILENO, filled.have as u64);
-                io::write_all(STDERR_FILENO, b"\n");
+                let have = filled.have;
+                let _ = eprintln!(rt; "empties: tail {have}");
             }
         }
         Read::Failed => {
-            io::write_all(
-                STDERR_FILENO,
-                b"empties: standard input could not be read\n",
-            );
+            let _ = rt.eprintln("empties: standard input could not be read");
         }
     }
 }
 
 // Says on standard error what was left over, or what failed.
-fn complain(stand: Stand) {
+fn complain(rt: &impl Eprint, stand: Stand) {
     match stand {
         Stand::Going => {}
-        Stand::Stopped(filled) => complain_of_input(filled),
+        Stand::Stopped(filled) => complain_of_input(rt, filled),
         Stand::WriteFailed => {
-            io::write_all(
-                STDERR_FILENO,
-                b"empties: standard output could not be written\n",
-            );
+            let _ = rt.eprintln("empties: standard output could not be written");
         }
     }
 }
 
 // Prints the address of each empty Sector, and says how it ended.
-pub fn print_addresses() -> Stand
+pub fn print_addresses<R: io::Read>(rt: &(impl Print + Eprint), input: &mut R) -> Stand
     ensures { Ended result }
 {
-    let stand = turns();
-    complain(stand);
+    let stand = turns(rt, input);
+    complain(rt, stand);
     stand
 }

@@ -1,4 +1,5 @@
 // What an entry answers that takes a Sector's 2,352 bytes and gives 2,352.
+#![tactic(auto)]
 ghost use Rattle.std.specs.Prelude.{◌≡◌};
 ghost use Rattle.told.specs.Told.{number_of};
 ghost use Rattle.entry.specs.Entry.{say_of};
@@ -6,7 +7,7 @@ ghost use Rattle.entry.specs.Entry.{say_of};
 // The bytes of a Sector, and so of its 98 frames of 24.
 pub const SECTOR: usize = 2352;
 
-#[derive(Drop)]
+#[derive(Clone, Copy)]
 pub enum Answer {
     Done,
     WrongIncoming,

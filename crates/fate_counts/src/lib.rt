@@ -1,11 +1,12 @@
 // Sectors counted by their fates, for the report (document 01, "The report").
+#![tactic(auto)]
 ghost use Rattle.std.specs.Prelude.{◌≡◌};
 ghost use Rattle.fate_counts.specs.Counting.{one_more_of, none_counted, counted_with};
 
 use address::HeaderTime;
 
 // What became of a Sector: clean or repaired with the time handed out, and then the changed count; or refused with its number.
-#[derive(Drop)]
+#[derive(Clone, Copy)]
 pub enum Fate {
     Clean(HeaderTime),
     Repaired(HeaderTime, u64),
@@ -13,7 +14,7 @@ pub enum Fate {
 }
 
 // How many Sectors there were so far, which is the index of the next one, and how many of each fate.
-#[derive(Drop)]
+#[derive(Clone, Copy)]
 pub struct Counts {
     pub sectors: u64,
     pub clean: u64,

@@ -1,4 +1,5 @@
 // Finding Sectors in a row of F1-frames at a frame and n not known beforehand (clause 16; document 02, §11).
+#![tactic(auto)]
 ghost use Rattle.std.specs.Prelude.{◌≡◌, ◌+◌, ◌*◌, ◌/◌, ◌%◌, ◌≤◌, ◌<◌, length};
 ghost use Rattle.outcome.specs.Say.{outcome};
 ghost use Rattle.alignment.specs.Found.{place, sync_stands, n_of, frame_of, whole_from, sectors_from, finding};
@@ -8,7 +9,7 @@ ghost use Rattle.finding.specs.FindSay.{say_of};
 const ROOM: usize = 63504;
 
 // What `find` answers: the frame, n, and how many Sectors are whole from there on; or why there is none.
-#[derive(Drop)]
+#[derive(Clone, Copy)]
 pub enum Found {
     At(usize, usize, usize),
     WrongIncoming,

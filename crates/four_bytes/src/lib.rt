@@ -1,4 +1,5 @@
 // Four bytes as one number, the first the lowest: how a register holds them.
+#![tactic(auto)]
 ghost use Rattle.std.specs.Prelude.{◌≡◌, ◌+◌, ◌*◌};
 ghost use Rattle.four_bytes.specs.FourBytes.{four_of, number_at};
 

@@ -1,4 +1,5 @@
 // Reading a Data Frame (ISO/IEC 16449, clause 16; document 02, §14).
+#![tactic(auto)]
 ghost use Rattle.std.specs.Prelude.{◌≡◌, length, take};
 ghost use Rattle.outcome.specs.Say.{outcome};
 ghost use Rattle.codeword.specs.Nearest.{is_codeword};
@@ -8,7 +9,7 @@ ghost use Rattle.frame_reader.specs.Reading.{reading, say_of};
 use data_frame::{Copyright, Fields, SectorNumber, ZoneType};
 
 // What becomes of a frame: its fields, or why it is refused.
-#[derive(Drop)]
+#[derive(Clone, Copy)]
 pub enum FrameRead {
     Done(Fields),
     WrongIncoming,

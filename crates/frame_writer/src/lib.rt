@@ -1,4 +1,5 @@
 // Writing a Data Frame (ISO/IEC 16449, clause 16; document 02, §14).
+#![tactic(auto)]
 ghost use Rattle.std.specs.Prelude.{◌≡◌, ◌++◌, length};
 ghost use Rattle.frame_edc.specs.FrameEdc.{edc};
 ghost use Rattle.data_frame.specs.DataFrame.{bit, information};
@@ -8,7 +9,7 @@ ghost use Rattle.frame_writer.specs.Inner.Made.{Front};
 use data_frame::Fields;
 
 // What becomes of what is to be written.
-#[derive(Drop)]
+#[derive(Clone, Copy)]
 pub enum FrameWritten {
     Done,
     WrongIncoming,

@@ -1,4 +1,5 @@
 // The trace after a Sync Header, and the choice of the Merging bits before the next one (document 01, "Channel bits").
+#![tactic(auto)]
 ghost use Rattle.std.specs.Prelude.{◌≡◌, cond, eqb};
 ghost use Rattle.header_choice.specs.HeaderChoice.{after_header, tail_choice, before_next_header};
 ghost use Rattle.header_choice.specs.Inner.{HeaderStands};
@@ -8,7 +9,7 @@ ghost use Rattle.traces.specs.Strokes.{spent};
 use traces::{Choice, Tally, Trace};
 
 // Merging bits before a Sync Header, and the tally after them.
-#[derive(Drop)]
+#[derive(Clone, Copy)]
 pub struct Tail {
     pub bits: u32,
     pub after: Tally,

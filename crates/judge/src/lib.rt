@@ -1,4 +1,5 @@
 // Judging a Sector: it passes with its mode and address, or the first fault in the order of the rules is the answer.
+#![tactic(auto)]
 ghost use Rattle.std.specs.Prelude.{◌≡◌, length};
 ghost use Rattle.sector.specs.Layout.{time_of};
 ghost use Rattle.judge.specs.Judging.{judging_mode01, judging_mode00, by_mode, judging, say_of};
@@ -6,7 +7,7 @@ ghost use Rattle.judge.specs.Judging.{judging_mode01, judging_mode00, by_mode, j
 use address::HeaderTime;
 use rspc::Parity;
 
-#[derive(Drop)]
+#[derive(Clone, Copy)]
 pub enum Judged {
     Passed(u8, HeaderTime),
     WrongIncoming,

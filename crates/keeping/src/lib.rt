@@ -1,4 +1,5 @@
 // A capture kept as a list of run lengths (document 02, §5).
+#![tactic(auto)]
 ghost use Rattle.std.specs.Prelude.{◌≡◌};
 ghost use Rattle.outcome.specs.Say.{outcome};
 ghost use Rattle.captures.specs.Kept.{keeping};
@@ -8,7 +9,7 @@ ghost use Rattle.keeping.specs.Inner.Wrote.{Ready, Wrote};
 use number_groups::put_number;
 
 // What keeping a capture answers: the used length of the list, or a refusal.
-#[derive(Drop)]
+#[derive(Clone, Copy)]
 pub enum Listed {
     Done(usize),
     WrongIncoming,

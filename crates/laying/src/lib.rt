@@ -1,4 +1,5 @@
 // Two slices laid into a third, one behind the other.
+#![tactic(auto)]
 ghost use Rattle.laying.specs.Both.{Lays};
 
 use outcome::copy;

@@ -1,1 +1,2 @@
 // Lists of bytes: definitions and laws only.
+#![tactic(auto)]

@@ -1,10 +1,11 @@
 // The number at a place of a list of run lengths (document 02, §5).
+#![tactic(auto)]
 ghost use Rattle.std.specs.Prelude.{◌≡◌, ◌<◌};
 ghost use Rattle.number_reader.specs.Leads.{Leads};
 ghost use Rattle.number_reader.specs.Inner.{ByteAt};
 
 // What stands at a place of a list: a number in its shortest form and the bytes that it takes, or none.
-#[derive(Drop)]
+#[derive(Clone, Copy)]
 pub enum Leading {
     Number(u16, usize),
     Malformed,

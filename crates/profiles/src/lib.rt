@@ -1,4 +1,5 @@
 // What the choice of Merging bits needs to know of a word of Annex D or of a SYNC, in a table of rows.
+#![tactic(auto)]
 ghost use Rattle.std.specs.Prelude.{◌≡◌, ◌+◌, ◌*◌, ◌<◌};
 ghost use Rattle.profiles.specs.Profiles.{profile_in, rows};
 ghost use Rattle.words.specs.Symbols.{symbols};
@@ -7,7 +8,7 @@ mod table;
 
 // A word as far as it matters to the choice: its ZEROs before the first ONE, the automaton's state after it if that ONE has not, or has, ten
 // ZEROs before it, how many of its bits are at level +1 if the level before it is +1, whether it has an odd number of ONEs, and its bits.
-#[derive(Drop)]
+#[derive(Clone, Copy)]
 pub struct Profile {
     pub lead: u8,
     pub plain: u8,

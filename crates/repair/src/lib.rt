@@ -1,8 +1,9 @@
 // Repair of a Sector (document 01, demand 3).
+#![tactic(auto)]
 ghost use Rattle.repair.specs.Repair.{Repairs, say_of};
 
 // What becomes of a Sector: it is handed out with the count of changed bytes, or refused.
-#[derive(Drop)]
+#[derive(Clone, Copy)]
 pub enum Repaired {
     HandedOut(usize),
     WrongIncoming,

@@ -1,4 +1,5 @@
 // A capture replayed into Channel Frames (document 02, §5).
+#![tactic(auto)]
 ghost use Rattle.std.specs.Prelude.{◌≡◌, ◌*◌, ◌/◌, ◌<◌, length, set, drop};
 ghost use Rattle.outcome.specs.Say.{outcome};
 ghost use Rattle.bits.specs.Bits.{unpack};
@@ -10,7 +11,7 @@ ghost use Rattle.replay.specs.FromEdge.{replaying_from};
 ghost use Rattle.replay.specs.Inner.Frames.{EdgeThere, FramesDue, FramesPut};
 
 // What replaying a capture answers: the used length and the number of frames, or a refusal; with an illegal run comes its index.
-#[derive(Drop)]
+#[derive(Clone, Copy)]
 pub enum Replayed {
     Done(usize, usize),
     WrongIncoming,
@@ -82,7 +83,7 @@ fn replay_from(capture: &[u8], k: usize, frames: &mut [u8]) -> Replayed
 
 // A reader that stays over the lent capture with its place, an edge (document 02, §5). The borrow checker covers no function over such a struct, so each
 // below is proved by hand; the work is left to functions of a slice and a number, which are covered.
-#[derive(Drop)]
+#[derive(Clone, Copy)]
 pub struct Reader<'a> {
     pub src: &'a [u8],
     pub at: usize,

@@ -1,5 +1,6 @@
 // The lines of a report printed (document 01, "The report"). Only `print` writes to standard output, only `say` calls it, and `say` asks that the
 // report has this line where it stands.
+#![tactic(auto)]
 ghost use Rattle.std.specs.Prelude.{◌≤◌};
 ghost use Rattle.fate_counts.specs.Counting.{none_counted};
 ghost use Rattle.text.specs.Line.{written};

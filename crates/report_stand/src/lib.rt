@@ -1,4 +1,6 @@
 // How far a report (document 01) is: how it stands, what is counted, and what follows from a read or from a line. Nothing here reads or writes.
+#![tactic(auto)]
+
 ghost use Rattle.std.specs.Prelude.{◌≡◌, ◌*◌, ◌/◌};
 ghost use Rattle.report_stand.specs.Standing.{is_over, ahead, stand_after, after_line};
 
@@ -7,7 +9,7 @@ use input_reading::{Filled, Read};
 
 // How a report stands: before its first line; between two Sectors; at the input's end with so many bytes left over; before its last
 // line; all said; or ended by a read or a write that failed.
-#[derive(Drop)]
+#[derive(Clone, Copy)]
 pub enum Stand {
     Opening,
     Going,
@@ -19,7 +21,7 @@ pub enum Stand {
 }
 
 // How far a report is: the Sectors counted, and how it stands.
-#[derive(Drop)]
+#[derive(Clone, Copy)]
 pub struct Progress {
     pub counts: Counts,
     pub stand: Stand,

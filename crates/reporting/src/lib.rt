@@ -1,5 +1,6 @@
 // The report (document 01) from standard input to standard output. What one read means stands in `input_reading`, what follows from it in
 // `report_stand`, its steps in `report_run`, what is printed in `report_lines`; the fate of a Sector is decided in `batch` and `fate`, every character of a line in `text`.
+#![tactic(auto)]
 ghost use Rattle.std.specs.Prelude.{◌≡◌, ◌*◌, length};
 ghost use Rattle.input_reading.specs.Reading.{Fills};
 ghost use Rattle.fate_counts.specs.Counting.{largest};

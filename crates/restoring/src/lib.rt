@@ -1,4 +1,5 @@
 // A list of run lengths turned back into its capture (document 02, §5).
+#![tactic(auto)]
 ghost use Rattle.std.specs.Prelude.{◌+◌, ◌≤◌, length};
 ghost use Rattle.captures.specs.Kept.{Restores};
 ghost use Rattle.restoring.specs.Answers.{say_of};
@@ -8,7 +9,7 @@ ghost use Rattle.restoring.specs.Inner.Count.{Counted};
 use number_reader::Leading;
 
 // What restoring a capture answers: its used length, or a refusal.
-#[derive(Drop)]
+#[derive(Clone, Copy)]
 pub enum Recaptured {
     Done(usize),
     WrongIncoming,
@@ -26,7 +27,7 @@ fn put_count(capture: &mut [u8], used: usize, count: u16)
 }
 
 // What reading a list finds: a capture of so many bytes, or that it is no list.
-#[derive(Drop)]
+#[derive(Clone, Copy)]
 enum Found {
     Capture(usize),
     Nothing,

@@ -1,4 +1,5 @@
 // Salvage of a Sector with both parities (document 02, §10): passes over P and Q in turn until what is tried of the bytes is correct.
+#![tactic(auto)]
 ghost use Rattle.std.specs.Prelude.{◌≡◌, length};
 ghost use Rattle.salvaging.specs.Salvage.{InRange, Room, Salvages};
 ghost use Rattle.salvage.specs.Answers.{say_of};
@@ -7,7 +8,7 @@ ghost use Rattle.salvage.specs.Inner.Works.{Works};
 use salvage_search::Found;
 
 // What becomes of a Sector: it is handed out with the number of passes used and the count of changes, or refused.
-#[derive(Drop)]
+#[derive(Clone, Copy)]
 pub enum Salvaged {
     HandedOut(u8, usize),
     WrongIncoming,

@@ -1,10 +1,11 @@
 // The search of salvage (document 02, §10) over the passes allowed.
+#![tactic(auto)]
 ghost use Rattle.salvage_search.specs.Search.{Searched};
 
 use salvage_passes::{pass, tries};
 
 // What the passes allowed find: a correct trial after so many of them, or none.
-#[derive(Drop)]
+#[derive(Clone, Copy)]
 pub enum Found {
     After(u8),
     Nothing,

@@ -11,7 +11,7 @@ use crate::{pen, symbols};
 use traces::Tally;
 
 // Where a writer stands between two frames.
-#[derive(Drop)]
+#[derive(Clone, Copy)]
 pub struct Writing {
     pub pen: Pen,
     pub tally: Tally,

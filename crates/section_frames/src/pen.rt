@@ -2,7 +2,7 @@
 ghost use Rattle.section_frames.specs.Inner.BufferBits.{Room, Inked};
 
 // The next byte's place, and the bits that wait for it: `count` of them, fewer than eight.
-#[derive(Drop)]
+#[derive(Clone, Copy)]
 pub struct Pen {
     pub at: usize,
     pub held: u32,

@@ -1,4 +1,5 @@
 // Reading whole Sections (clause 19): Channel bits become bytes and marks.
+#![tactic(auto)]
 ghost use Rattle.std.specs.Prelude.{◌≡◌, length};
 ghost use Rattle.bits.specs.Bits.{unpack};
 ghost use Rattle.section_reader.specs.Reading.{bytes_read, marks_read};
@@ -8,7 +9,7 @@ ghost use Rattle.section_reader.specs.Inner.{FrameDue, FrameTaken};
 use channel_frame::Frame;
 
 // What reading a Section answers.
-#[derive(Drop)]
+#[derive(Clone, Copy)]
 pub enum SectionRead {
     Done,
     WrongIncoming,

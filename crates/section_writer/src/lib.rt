@@ -1,4 +1,5 @@
 // Channel bits of whole Sections (clause 19): the writer.
+#![tactic(auto)]
 ghost use Rattle.std.specs.Prelude.{◌≡◌, ◌<◌};
 ghost use Rattle.calls.specs.Step.{step};
 ghost use Rattle.traces.specs.Traces.{Within};
@@ -10,7 +11,7 @@ ghost use Rattle.section_writer.specs.WriteSay.{say_of, written};
 use traces::Tally;
 
 // The state of a Section writer: the DSV and the level after all that it wrote, and how many Sections that were.
-#[derive(Drop)]
+#[derive(Clone, Copy)]
 pub struct SectionWriter {
     pub dsv: i64,
     pub level: i64,
@@ -18,7 +19,7 @@ pub struct SectionWriter {
 }
 
 // What writing a Section answers.
-#[derive(Drop)]
+#[derive(Clone, Copy)]
 pub enum SectionWritten {
     Done,
     WrongIncoming,
@@ -28,7 +29,7 @@ pub enum SectionWritten {
 }
 
 // The state after a step, and what the step answers.
-#[derive(Drop)]
+#[derive(Clone, Copy)]
 pub struct SectionStep {
     pub next: SectionWriter,
     pub answer: SectionWritten,

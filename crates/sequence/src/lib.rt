@@ -1,4 +1,5 @@
 // The register of Annex B, figure B.1, from which the sequence is worked out.
+#![tactic(auto)]
 ghost use Rattle.std.specs.Prelude.{◌≡◌, ℕ, ◌+◌, ◌<◌, replicate};
 ghost use Rattle.outcome.specs.Buffer.{grown};
 ghost use Rattle.outcome.specs.Table.{tabulated};
@@ -12,13 +13,13 @@ fn wide(b: u8) -> u16
 }
 
 // Fifteen bits; the least significant is handed out next.
-#[derive(Drop)]
+#[derive(Clone, Copy)]
 struct Register {
     bits: u16,
 }
 
 // A byte that was handed out, and the register after it.
-#[derive(Drop)]
+#[derive(Clone, Copy)]
 struct Shifted {
     byte: u8,
     next: Register,

@@ -3,17 +3,17 @@ ghost use Rattle.std.specs.Prelude.{◌≡◌, ◌*◌, ◌≤◌, length};
 ghost use Rattle.stream_rules.specs.Offences.{judged};
 ghost use Rattle.stream_windows.specs.Calm.Until.{ClearBelow};
 
-use crate::bits;
+use crate::taken;
 
 // A bit before which no run and no Sync Header offends.
 pub(crate) fn calm_until(channel: &[u8], n: usize) -> usize
     requires { (length channel.now ≡ 7203 * n) × (1 ≤ n) × (n ≤ 9) }
     ensures { (result ≤ 57624 * n) × ClearBelow (judged channel.now) result }
 {
-    let mut held = bits::triple(channel, 0);
+    let mut held = taken::triple(channel, 0);
     let mut t: usize = 0;
     while t < 2401 * n {
-        let next = bits::triple(channel, t + 1);
+        let next = taken::triple(channel, t + 1);
         let w = held * 16777216 + next;
         let calm = stream_windows::is_triple_calm(w, t % 49);
         if !calm {

@@ -1,17 +1,18 @@
 // Judging Sections that somebody else wrote (document 02, §12).
+#![tactic(auto)]
 ghost use Rattle.std.specs.Prelude.{◌≡◌, ◌*◌, ◌≤◌, length};
 ghost use Rattle.stream_rules.specs.Judging.{judging};
 ghost use Rattle.stream_windows.specs.Window.Found.{Finding};
 ghost use Rattle.stream_judge.specs.Answers.{say_of};
 
-mod bits;
+mod taken;
 mod calm;
 mod search;
 mod words_listed;
 
 // What judging Sections answers. An offence comes with the position of its bit, 0 to 518,616: for a run that of the ONE that comes too early or of the
 // eleventh ZERO, for a Sync Header or a word that of its first bit.
-#[derive(Drop)]
+#[derive(Clone, Copy)]
 pub enum SectionsJudged {
     Accepted,
     WrongIncoming,

@@ -6,10 +6,10 @@ ghost use Rattle.stream_windows.specs.Window.{word_wrong, offence_in};
 ghost use Rattle.stream_windows.specs.Window.Found.{Finding};
 ghost use Rattle.stream_judge.specs.Inner.{NoneBefore};
 
-use crate::{bits, words_listed};
+use crate::{taken, words_listed};
 
 // The number of the offence at a bit, 0 for none.
-#[derive(Drop)]
+#[derive(Clone, Copy)]
 pub struct Offence {
     pub number: u64,
     pub place: usize,
@@ -44,7 +44,7 @@ pub(crate) fn search_from(channel: &[u8], n: usize, start: usize) -> Offence
     let table = words::all_words();
     let guide = words::guide();
     let total = 8 * channel.len();
-    let mut v = bits::window_at(channel, start);
+    let mut v = taken::window_at(channel, start);
     let mut p: usize = start;
     while p < total {
         let k = offence_in(&table, &guide, p, v);

@@ -1,5 +1,6 @@
 // What the choice of Merging bits goes by (document 01, "Channel bits"): the level and the counts of bits at each level, the automaton's state,
 // and which of two choices is the better one.
+#![tactic(auto)]
 ghost use Rattle.std.specs.Prelude.{◌≡◌, ◌-◌, if◌then◌else◌, nat_eq};
 ghost use Rattle.merging.specs.Dsv.{absolute};
 ghost use Rattle.traces.specs.Better.{better_of};
@@ -10,7 +11,7 @@ ghost use Rattle.traces.specs.Traces.{light, fits};
 const BROKEN: u8 = 22;
 
 // The level after what was written, 1 for +1 and 0 for -1, and how many bits there ever were at level +1 and at -1.
-#[derive(Drop)]
+#[derive(Clone, Copy)]
 pub struct Tally {
     pub level: u8,
     pub plus: u64,
@@ -18,14 +19,14 @@ pub struct Tally {
 }
 
 // What was written so far, as far as it matters to the Merging bits that follow: the automaton's state, and the tally.
-#[derive(Drop)]
+#[derive(Clone, Copy)]
 pub struct Trace {
     pub run: u8,
     pub tally: Tally,
 }
 
 // Merging bits, with the word after them if there is one, and the trace after what follows them.
-#[derive(Drop)]
+#[derive(Clone, Copy)]
 pub struct Choice {
     pub bits: u32,
     pub after: Trace,

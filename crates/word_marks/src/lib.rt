@@ -1,5 +1,6 @@
 // What the places of a Channel Frame give when it is read (document 01, "Channel bits"; document 02, §6): a byte and a mark for each word, and
 // zeros with mark 4 for a frame that is lost.
+#![tactic(auto)]
 ghost use Rattle.std.specs.Prelude.{◌≡◌, cond, eqb, length, replicate};
 ghost use Rattle.words.specs.Words.{sync0, sync1};
 ghost use Rattle.words.specs.LookUp.{looked_up};
@@ -8,7 +9,7 @@ ghost use Rattle.word_marks.specs.Marks.{byte_for, mark_for};
 use words::Symbol;
 
 // A byte that was read, and its mark.
-#[derive(Drop)]
+#[derive(Clone, Copy)]
 pub struct Reading {
     pub byte: u8,
     pub mark: u8,

@@ -1,4 +1,5 @@
 // The 8-to-14 code of Annex D: the words, and a guide to the byte of a word.
+#![tactic(auto)]
 ghost use Rattle.std.specs.Prelude.{◌≡◌};
 ghost use Rattle.words.specs.Words.{words};
 ghost use Rattle.words.specs.LookUp.{Guide};
@@ -6,7 +7,7 @@ ghost use Rattle.words.specs.LookUp.{Guide};
 mod table;
 
 // What 14 Channel bits stand for.
-#[derive(Drop)]
+#[derive(Clone, Copy)]
 pub enum Symbol {
     Byte(u8),
     Unknown,

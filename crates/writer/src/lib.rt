@@ -1,4 +1,5 @@
 // Writing a Sector (clause 14).
+#![tactic(auto)]
 ghost use Rattle.std.specs.Prelude.{◌≡◌, ◌≤◌, length};
 ghost use Rattle.writer.specs.Write.{Writes, say_of};
 ghost use Rattle.writer.specs.Inner.Laid.{laid};
@@ -32,7 +33,7 @@ fn make(mode: u8, time: HeaderTime, user: &[u8]) -> [u8; 2352]
 }
 
 // What becomes of what is to be written.
-#[derive(Drop)]
+#[derive(Clone, Copy)]
 pub enum Written {
     Done,
     WrongOutgoing,

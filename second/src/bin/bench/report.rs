@@ -1,4 +1,4 @@
-//! The report over 100 MB: how fast the program is that `rt check report` builds.
+//! The report over 100 MB: how fast the program is that `rt run` builds.
 
 use second::proved;
 use second::random::Random;
@@ -44,7 +44,7 @@ fn speed(program: &Path, image: &Path) -> std::io::Result<f64> {
 /// Whether the program was there to be run.
 pub fn print() -> bool {
     let package = Path::new(env!("CARGO_MANIFEST_DIR"));
-    let program = package.join("../target/bin/report");
+    let program = package.join("../crates/report/out/report");
     let image = std::env::temp_dir().join(format!("sectors-{}.bin", std::process::id()));
     let measured = write_image(&image).and_then(|()| speed(&program, &image));
     let _ = std::fs::remove_file(&image);

@@ -1,0 +1,17 @@
+-- `batch::repair_many` meets its contract: each way out is a law of `WaysOut`, or the batch is taken.
+-- Assumes nothing.
+use borrow.Author.Rules.{rules}
+use Rattle.batch.proofs.WaysOut.{ways}
+use Rattle.batch.proofs.repair_many.Goals as goal
+
+pub returns-then-n-eq0 : goal.returns-then-n-eq0
+returns-then-n-eq0 c = search ways
+
+pub returns-then-out-received : goal.returns-then-out-received
+returns-then-out-received c = search ways
+
+pub repair_each-requires : goal.repair_each-requires
+repair_each-requires c = (c.sectors_in-n.ensures.so_many c.if-n-eq0.false, c.if-out-received.false)
+
+pub returns : goal.returns
+returns c = search ways

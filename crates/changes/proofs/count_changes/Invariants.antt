@@ -1,0 +1,13 @@
+-- `changes::count_changes` meets its contract: the loop has counted the places that it passed (`Counting`).
+-- Assumes nothing.
+use Prim.Native.Nat.{◌≤◌, ◌-◌}
+use mathlib.Core.Path.{◌≡◌}
+use lib.ListN.{take}
+use Rattle.codeword.specs.Code.{changes}
+use Rattle.changes.proofs.count_changes.Given as goal
+
+abbrev pub invariant-loop-i : goal.invariant-loop-i
+invariant-loop-i l = (l.i ≤ l.n) × (l.count ≤ l.i) × (l.count ≡ changes (take l.i l.a) (take l.i l.b))
+
+abbrev pub decreases-loop-i : goal.decreases-loop-i
+decreases-loop-i l = l.n - l.i

@@ -1,0 +1,15 @@
+-- `frame_edc::parity` meets its contract: the register after four bytes 0 more holds the EDC, and its digits are the bytes (`edc-digits`).
+-- Assumes nothing.
+use mathlib.Core.Path.{◌∙◌}
+use native.Mathlib.Omega.{arith}
+use Rattle.frame_edc.proofs.Passed.{taken_more}
+use Rattle.frame_edc.proofs.Digits.{edc-digits}
+use borrow.Author.Rules.{rules}
+use Rattle.frame_edc.proofs.parity.Goals as goal
+
+pub returns : goal.returns
+returns c =
+    edc-digits _ c.take_byte-r.result (omega arith)
+    (c.take_byte-r.ensures
+    ∙ taken_more _ _ 0
+    (c.take_byte-three.ensures ∙ taken_more _ _ 0 (c.take_byte-two.ensures ∙ taken_more _ _ 0 (c.take_byte-one.ensures ∙ taken_more _ _ 0 c.divide.ensures))))

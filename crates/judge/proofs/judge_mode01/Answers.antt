@@ -1,0 +1,23 @@
+-- `judge::judge_mode01` meets its contract: each way out is a law of `WaysOut`.
+-- Assumes nothing.
+use borrow.Author.Rules.{rules}
+use Rattle.judge.proofs.WaysOut.{covered_long, ways01}
+use Rattle.judge.proofs.judge_mode01.Goals as goal
+
+pub slice_bounds-holds-end : goal.slice_bounds-holds-end
+slice_bounds-holds-end c = search covered_long
+
+pub returns-then-not-holds : goal.returns-then-not-holds
+returns-then-not-holds c = search ways01
+
+pub returns-then-not-intermediate_right : goal.returns-then-not-intermediate_right
+returns-then-not-intermediate_right c = search ways01
+
+pub returns-then-p-lt86 : goal.returns-then-p-lt86
+returns-then-p-lt86 c = search ways01
+
+pub returns-then-q-lt52 : goal.returns-then-q-lt52
+returns-then-q-lt52 c = search ways01
+
+pub returns : goal.returns
+returns c = search ways01

@@ -1,0 +1,16 @@
+-- `lost_errors::error_at` meets its contract: from i on, t are the sums twisted by each lost byte but that at p, and f is its factor;
+-- the laws of `Turned` take them one place on.
+-- Assumes nothing.
+use mathlib.Core.Path.{sym, ◌∙◌}
+use native.Mathlib.Omega.{arith}
+use borrow.Author.Rules.{rules}
+use lib.ListN.{length, length-set}
+use Rattle.erasures.specs.Errors.{others}
+use Rattle.lost_errors.proofs.Sweep.{Turned, turned_none, turned-kept, turned_lost, turned_error}
+use Rattle.lost_errors.proofs.error_at.Given as goal
+
+abbrev pub invariant-loop-i : goal.invariant-loop-i
+invariant-loop-i l = Turned (others l.marks l.p) l.initial.t l.y l.t l.f l.x l.i
+
+abbrev pub decreases-loop-i : goal.decreases-loop-i
+decreases-loop-i l = l.i

@@ -1,0 +1,18 @@
+-- `exchange_pairs` meets its contract: each way out is a law of `Whole`.
+-- Assumes nothing.
+use mathlib.Core.Path.{refl}
+use borrow.Author.Rules.{rules}
+use Rattle.pair_exchange.specs.Exchange.Whole.{unlike, broken, whole}
+use Rattle.pair_exchange.proofs.exchange_pairs.Goals as goal
+
+pub returns-then-from-out : goal.returns-then-from-out
+returns-then-from-out c =
+    (unlike c.args.from.now c.args.out.now c.if-from-out.true, refl)
+
+pub returns-then-from-ne0 : goal.returns-then-from-ne0
+returns-then-from-ne0 c =
+    (broken c.args.from.now c.args.out.now c.if-from-out.false c.if-from-ne0.true, refl)
+
+pub returns : goal.returns
+returns c =
+    (whole c.args.from.now c.args.out.now c.if-from-out.false c.if-from-ne0.false, c.put_exchanged.ensures)

@@ -1,0 +1,31 @@
+-- `put_exchanged` meets its contract: after `i` turns the first `i` frames are those of the list `exchanged` (`Exchanging`).
+-- Assumes nothing.
+use Prim.Native.Nat.{◌*◌, ◌-◌, ◌/◌}
+use mathlib.Core.Path.{sym, ◌∙◌}
+use native.Mathlib.Omega.{arith}
+use borrow.Author.Rules.{rules}
+use lib.ListN.{length}
+use Rattle.outcome.specs.Buffer.{Filling}
+use Rattle.outcome.specs.Buffer.Filled.{filling-none, filling_long, filling_all}
+use Rattle.pair_exchange.specs.Exchange.{exchanged}
+use Rattle.pair_exchange.specs.Exchange.Pairs.{length_exchanged}
+use Rattle.pair_exchange.proofs.Exchanging.{frame_more}
+use Rattle.pair_exchange.proofs.put_exchanged.Goals as goal
+
+pub loop-i-init : goal.loop-i-init
+loop-i-init c =
+    filling-none _ _ (c.requires.1 ∙ sym (length_exchanged c.args.from.now))
+
+pub slice_bounds-copy-end-in-loop-i : goal.slice_bounds-copy-end-in-loop-i
+slice_bounds-copy-end-in-loop-i c = omega (arith, filling_long c.loop-i.invariant)
+
+pub loop-i-preserved : goal.loop-i-preserved
+loop-i-preserved c =
+    frame_more c.args.out.now c.args.from.now c.loop-i.out c.copy.new.to c.exchanged_frame-frame.result c.loop-i.i
+    c.copy.result c.loop-i.invariant c.requires.0 (omega arith) c.exchanged_frame-frame.ensures c.copy.ensures
+
+pub shape_of-out : goal.shape_of-out
+shape_of-out c = filling_long c.loop-i.invariant
+
+pub returns : goal.returns
+returns c = filling_all c.loop-i.invariant (omega (arith, length_exchanged c.args.from.now))

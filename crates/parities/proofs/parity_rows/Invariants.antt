@@ -1,0 +1,15 @@
+-- `parities::parity_rows` meets its contract. The loop's invariant: the columns below k have their parity, the others their sums (`Parting`).
+-- Assumes nothing.
+use mathlib.Core.Path.{◌≡◌, ◌∙◌, subst}
+use Prim.Native.Nat.{ℕ, ◌-◌}
+use native.Mathlib.Omega.{arith}
+use lib.ListN.{length}
+use Rattle.parities.specs.Inner.ParityRows.{ParityRows}
+use Rattle.parities.proofs.Parting.{Parting, parting_none, parting_more, parting_all}
+use Rattle.parities.proofs.parity_rows.Given as goal
+
+abbrev pub invariant-loop-k : goal.invariant-loop-k
+invariant-loop-k l = Parting (length l.initial.p0) l.rows l.k l.p0 l.p1
+
+abbrev pub decreases-loop-k : goal.decreases-loop-k
+decreases-loop-k l = length l.initial.p0 - l.k

@@ -1,0 +1,10 @@
+-- `put_scrambled` meets its contract: the buffer is the Sector, then all of it but the Sync is added to the sequence (`Masked`).
+-- Assumes nothing.
+use borrow.Author.Rules.{rules}
+use Rattle.scrambling.proofs.Masked.{masked}
+use Rattle.scrambling.proofs.put_scrambled.Goals as goal
+
+pub returns : goal.returns
+returns c =
+    masked c.args.sector.now c.args.out.now c.copy.new.to c.worked_out-sequence.result c.add.new.to
+    c.copy.result c.add.result c.requires.0 c.requires.1 c.copy.ensures c.worked_out-sequence.ensures c.add.ensures

@@ -1,0 +1,12 @@
+-- `shift` meets its contract: what it computes is eight single steps of the register (`Shifting`).
+-- Assumes nothing.
+use Prim.Native.Nat.{ℕ, ◌+◌, ◌*◌, ◌/◌}
+use mathlib.Core.Path.{ap, ◌∙◌}
+use borrow.Author.Rules.{rules}
+use Rattle.sequence.proofs.Shifting.{handed_out, eight_on_lem}
+use Rattle.sequence.proofs.Register.shift.Goals as goal
+
+pub returns : goal.returns
+returns c =
+    let x = c.args.self.bits in
+    λ n e. (handed_out n x e, ap (λ (y : ℕ). x / 256 + 128 * y) c.wide.ensures.0 ∙ eight_on_lem n x e)

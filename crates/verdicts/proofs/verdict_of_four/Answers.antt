@@ -1,0 +1,16 @@
+-- `verdicts::verdict_of_four` meets its contract: `verdict-found` joins the sums, their fault and its cure; a fault lies inside the
+-- word by `fault_inside`.
+-- Assumes nothing.
+use borrow.Author.Rules.{rules}
+use mathlib.Core.Path.{sym, ◌∙◌}
+use native.Mathlib.Omega.{arith}
+use Rattle.codeword.specs.Fault.Decides.{fault_inside}
+use Rattle.verdicts.proofs.Found.{verdict-found}
+use Rattle.verdicts.proofs.verdict_of_four.Goals as goal
+
+pub cured-requires : goal.cured-requires
+cured-requires c = λ i e p. fault_inside _ _ i e (sym c.fault_of_four.ensures ∙ p)
+
+pub returns : goal.returns
+returns c =
+    verdict-found 4 _ (omega arith) c.four_sums.ensures c.fault_of_four.ensures c.cured.ensures
