@@ -81,8 +81,7 @@ fn replay_from(capture: &[u8], k: usize, frames: &mut [u8]) -> Replayed
     Replayed::Done((588 * n + 7) / 8, n)
 }
 
-// A reader that stays over the lent capture with its place, an edge (document 02, §5). The borrow checker covers no function over such a struct, so each
-// below is proved by hand; the work is left to functions of a slice and a number, which are covered.
+// A reader that stays over the lent capture with its place, an edge (document 02, §5). The work is left to functions of a slice and a number.
 #[derive(Clone, Copy)]
 pub struct Reader<'a> {
     pub src: &'a [u8],

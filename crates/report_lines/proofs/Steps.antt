@@ -1,10 +1,6 @@
 -- From one step of a report to the next: what its functions ask of a line, and what they know after it.
 -- Assumes nothing.
-use mathlib.Core.Path.{◌≡◌, sym, subst}
-use mathlib.Core.Bool.{Bool, true, false}
-use mathlib.Core.List.{List}
-use Prim.Native.Nat.{ℕ, ◌≤◌}
-use native.Mathlib.Omega.{arith}
+use Rattle.std.proofs.Common.{◌≡◌, sym, subst, Bool, true, false, List, ℕ, ◌≤◌, arith}
 use Rattle.fate_counts.specs.declared.Counts.{Counts}
 use Rattle.fate_counts.specs.declared.Fate.{Fate}
 use Rattle.text.specs.declared.Text.{Text}
@@ -17,7 +13,7 @@ use Rattle.report_stand.specs.declared.Stand.{Stand}
 use Rattle.report_stand.specs.declared.Stand.TheVariants.{Opening, Going}
 use Rattle.report_stand.specs.Standing.{after_line}
 use Rattle.report_run.specs.Run.{Step, opens, tells, unwritten, Goes}
-use Rattle.report_lines.specs.Inner.Says.{Says, counted, Due}
+use Rattle.report_lines.specs.Inner.Says.{Says, Due}
 
 -- a line that the report has here may be said
 pub sayable : {s t : Stand} {c d : Counts} (line : List ℕ) (text : Text) → Holds line text → Step s c line t d
@@ -43,9 +39,6 @@ module _ (c d : Counts) (fate : Fate) (e : d ≡ counted_with c fate) where
   pub tellable : (text : Text) → Due c fate → Holds (fate_line c.sectors fate) text → (text.len ≤ 96) × Step Going c (written text) Going d
   tellable text u h =
       sayable (fate_line c.sectors fate) text h (subst (λ (x : Counts). Step Going c (fate_line c.sectors fate) Going x) (sym e) (tells_due u))
-
-  pub told_one : (r : Progress) → Says Going c (record { counts = d; stand = Going }) r → Says Going c (counted c fate) r
-  told_one r s = subst (λ (x : Counts). Says Going c (record { counts = x; stand = Going }) r) e s
 
 -- ---- the first line
 

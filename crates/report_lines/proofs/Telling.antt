@@ -1,15 +1,6 @@
 -- The lines of the Sectors of a batch, one after the other.
 -- Assumes nothing.
-use mathlib.Core.Path.{◌≡◌, refl, sym, ap, ◌∙◌, subst}
-use mathlib.Core.Bool.{Bool, true, false}
-use mathlib.Core.List.{List, [], ◌∷◌}
-use mathlib.Core.Logic.{◌⊎◌, inl, inr}
-use Prim.Native.Nat.{ℕ, zero, suc, ◌+◌, ◌-◌, ◌*◌, ◌≤◌, ◌<◌}
-use native.Mathlib.Numerals.{add-one}
-use native.Mathlib.Omega.{arith}
-use types.Run.{OneOf, miss}
-use denote.Enum.Declared as enum
-use lib.ListN.{length, take, drop, get_or}
+use Rattle.std.proofs.Common.{◌≡◌, refl, sym, ap, ◌∙◌, subst, Bool, true, false, List, [], ◌∷◌, ◌⊎◌, inl, inr, ℕ, zero, suc, ◌+◌, ◌-◌, ◌*◌, ◌≤◌, ◌<◌, add-one, arith, length, take, drop, get_or}
 use Rattle.outcome.specs.First.Found.{lt-or-le}
 use Rattle.outcome.specs.Say.{done}
 use Rattle.batch.specs.declared.Answer.{Answer}
@@ -19,25 +10,22 @@ use Rattle.batch.specs.Sectors.{sector_at}
 use Rattle.batch.specs.Sectors.Apart.{length_sector}
 use Rattle.batch.specs.Batch.{no_sector, fate_at, say_at, RepairsMany, wrong_incoming, wrong-outgoing, say_of}
 use Rattle.batch.specs.Batch.Alone.{when_done}
-use Rattle.batch.specs.contracts.Answer as answer
 use Rattle.repair.specs.Repair as single
-use Rattle.repair.specs.declared.Repaired.TheVariants as repaired
 use Rattle.fate_counts.specs.declared.Counts.{Counts}
 use Rattle.fate_counts.specs.declared.Fate.{Fate}
 use Rattle.fate.specs.Fated.{fate_from, Fated}
 use Rattle.fate.specs.Fated.InBatch.{fated_in_batch}
 use Rattle.report_stand.specs.declared.Progress.{Progress}
-use Rattle.report_stand.specs.declared.Stand.TheVariants.{Going, Done, WriteFailed}
+use Rattle.report_stand.specs.declared.Stand.TheVariants.{Going, WriteFailed}
 use Rattle.report_stand.specs.Standing.{after_line, ahead}
 use Rattle.report_lines.specs.Inner.Says.{Says, counted, Due}
 use Rattle.report_lines.specs.Told.{Lines, none, next, Told, all_told, unwritten, sectors_in, Some, Tells}
 use Rattle.report_lines.specs.Told.Counted.{lines_counted}
-use Rattle.report_stand.specs.contracts.Stand as stand
 
 -- no batch was taken: no Sector came
-pub nothing : (c : Counts) (r out : List ℕ) (a : Answer) {f : List SectorFate} {new : List ℕ} → OneOf (1 ∷ 2 ∷ []) (enum.tag_of answer.the_type a)
+pub nothing : (c : Counts) (r out : List ℕ) (a : Answer) {f : List SectorFate} {new : List ℕ} → ((n : ℕ) → a ≡ answers.Done n → ⊥)
     → Some c r out → RepairsMany r out (say_of a) f new → sectors_in r ≡ 0
-nothing c r out (answers.Done n) k s p = absurd (miss (1 ∷ 2 ∷ []) 0 tt k)
+nothing c r out (answers.Done n) k s p = absurd (k n refl)
 nothing c r out answers.WrongIncoming k s (wrong_incoming h) = by (lt-or-le 0 (sectors_in r))
   where
     by : (0 < sectors_in r) ⊎ (sectors_in r ≤ 0) → sectors_in r ≡ 0
@@ -58,18 +46,11 @@ pub record Telling (n : ℕ) (r : List ℕ) (c : Counts) (i : ℕ) (p : Progress
 pub telling_none : (n : ℕ) (r : List ℕ) (c : Counts) → Telling n r c 0 (record { counts = c; stand = Going })
 telling_none n r c = record { upto = omega arith; lines = none; on = refl }
 
--- what the code's rules take for an element behind the end, which does not matter before it
-abbrev pub behind : SectorFate
-behind = record { repaired = repaired.HandedOut 0 }
-
+-- what is taken for an element behind the end does not matter before it
 either : (f : List SectorFate) (i : ℕ) (a b : SectorFate) → i < length f → get_or f i a ≡ get_or f i b
 either [] i a b h = absurd (omega arith)
 either (x ∷ f) zero a b h = refl
 either (x ∷ f) (suc i) a b h = either f i a b (omega arith)
-
--- any stand but going on
-abbrev not_going : List ℕ
-not_going = 0 ∷ 2 ∷ 3 ∷ 4 ∷ 5 ∷ 6 ∷ []
 
 -- the part of Sector i as it is lent
 abbrev lent : ℕ → List ℕ → List ℕ
@@ -89,7 +70,7 @@ pub no_room : {c : Counts} {k n : ℕ} → k ≡ ahead c → k < n → TooMany c
 no_room e h = record { cannot = omega arith }
 
 -- no batch was taken, and nothing is told
-pub untaken : (c : Counts) (r out : List ℕ) (a : Answer) {f : List SectorFate} {new : List ℕ} → OneOf (1 ∷ 2 ∷ []) (enum.tag_of answer.the_type a)
+pub untaken : (c : Counts) (r out : List ℕ) (a : Answer) {f : List SectorFate} {new : List ℕ} → ((n : ℕ) → a ≡ answers.Done n → ⊥)
     → RepairsMany r out (say_of a) f new → Tells c r out new (record { counts = c; stand = Going })
 untaken c r out a {f} k b =
     record {
@@ -152,7 +133,7 @@ module _ {c : Counts} {r out new : List ℕ} {f : List SectorFate} {a : Answer} 
         let k : i ≡ sectors_in r = omega (arith, as_many, g.upto) in
         all_told (subst (λ (m : ℕ). Lines r c m p.counts) k g.lines) g.on
 
-    module _ (h : i < n) (fate : Fate) (q : fate ≡ fate_from (single.say_of (get_or f i behind).repaired) (lent i new)) where
+    module _ (h : i < n) (behind : SectorFate) (fate : Fate) (q : fate ≡ fate_from (single.say_of (get_or f i behind).repaired) (lent i new)) where
       fated : Fated (sector_at i r) fate
       fated =
           let k : 2352 * i + 2352 - 2352 * i ≡ 2352 = omega arith in
@@ -188,11 +169,11 @@ module _ {c : Counts} {r out new : List ℕ} {f : List SectorFate} {a : Answer} 
             by false u = let v : WriteFailed ≡ Going = sym (ap (λ (z : Progress). z.stand) u) ∙ t in let z : ◌≡◌ {A = ℕ} 0 1 = cc in absurd (omega arith)
 
         -- it could not be written
-        pub telling_ends : OneOf not_going (enum.tag_of stand.the_type x.stand) → Told (sectors_in r) r c Going x
+        pub telling_ends : (x.stand ≡ Going → ⊥) → Told (sectors_in r) r c Going x
         telling_ends t = by y.went y.is
           where
             by : (w : Bool) → x ≡ after_line w p.counts (counted p.counts fate) → Told (sectors_in r) r c Going x
             by true u =
-                absurd (miss not_going 1 tt (subst (λ (z : Progress). OneOf not_going (enum.tag_of stand.the_type z.stand)) u t))
+                absurd (t (ap (λ (z : Progress). z.stand) u))
             by false u =
                 unwritten {k = i} (omega (arith, as_many)) (subst (λ (z : Progress). Lines r c i z.counts) (sym u) g.lines) fated (ap (λ (z : Progress). z.stand) u)

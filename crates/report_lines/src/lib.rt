@@ -1,6 +1,7 @@
 // The lines of a report printed (document 01, "The report"). Only `print` writes to standard output, only `say` calls it, and `say` asks that the
 // report has this line where it stands.
 #![tactic(auto)]
+
 ghost use Rattle.std.specs.Prelude.{◌≤◌};
 ghost use Rattle.fate_counts.specs.Counting.{none_counted};
 ghost use Rattle.text.specs.Line.{written};
@@ -10,29 +11,28 @@ ghost use Rattle.report_lines.specs.Told.{Tells};
 
 use batch::Answer;
 use fate_counts::{Counts, Fate};
-use libc::STDOUT_FILENO;
 use report_stand::{Progress, Stand};
 use text::Text;
 
 // Writes a line, and says whether all of it went out.
-fn print(line: Text) -> bool
+fn print(rt: &impl Print, line: Text) -> bool
     requires { line.len ≤ 96 }
 {
     let n = line.len;
     let bytes = line.bytes;
-    io::write_all(STDOUT_FILENO, &bytes[..n])
+    rt.write_all(&bytes[..n]).is_ok()
 }
 
 // Prints the line that leads from here to `next`.
-fn say(stand: Stand, counts: Counts, line: Text, next: Progress) -> Progress
+fn say(rt: &impl Print, stand: Stand, counts: Counts, line: Text, next: Progress) -> Progress
     requires { (line.len ≤ 96) × Step stand counts (written line) next.stand next.counts }
     ensures { Says stand counts next result }
 {
-    report_stand::after_line(print(line), counts, next)
+    report_stand::after_line(print(rt, line), counts, next)
 }
 
 // Prints the line of a Sector with this fate and counts it.
-fn tell(counts: Counts, fate: Fate) -> Progress
+fn tell(rt: &impl Print, counts: Counts, fate: Fate) -> Progress
     requires { Due counts fate }
     ensures { Says Stand.Going counts (counted counts fate) result }
 {
@@ -41,12 +41,12 @@ fn tell(counts: Counts, fate: Fate) -> Progress
         counts: counts.counted(fate),
         stand: Stand::Going,
     };
-    say(Stand::Going, counts, line, next)
+    say(rt, Stand::Going, counts, line, next)
 }
 
 // Repairs the whole Sectors that came, at most sixteen, and prints the line of each, in order; where they are not such Sectors, or cannot all be
 // counted, nothing is printed.
-pub fn tell_each(counts: Counts, received: &[u8], out: &mut [u8]) -> Progress
+pub fn tell_each(rt: &impl Print, counts: Counts, received: &[u8], out: &mut [u8]) -> Progress
     ensures { Tells counts received.now out.old out.new result }
 {
     let mut progress = Progress {
@@ -69,7 +69,7 @@ pub fn tell_each(counts: Counts, received: &[u8], out: &mut [u8]) -> Progress
         let repaired = one.repaired;
         let fate = fate::fate_of(repaired, &out[at..at + 2352]);
         let before = progress.counts;
-        progress = tell(before, fate);
+        progress = tell(rt, before, fate);
         let stand = progress.stand;
         let Stand::Going = stand else {
             return progress;
@@ -80,7 +80,7 @@ pub fn tell_each(counts: Counts, received: &[u8], out: &mut [u8]) -> Progress
 }
 
 // Prints the first line.
-pub fn open() -> Progress
+pub fn open(rt: &impl Print) -> Progress
     ensures { Goes Stand.Opening none_counted result.stand result.counts }
 {
     let counts = Counts::none();
@@ -88,22 +88,22 @@ pub fn open() -> Progress
         counts,
         stand: Stand::Going,
     };
-    say(Stand::Opening, counts, text::first_line(), next)
+    say(rt, Stand::Opening, counts, text::first_line(), next)
 }
 
 // Prints the count of leftover bytes.
-pub fn tail(left: u64, counts: Counts) -> Progress
+pub fn tail(rt: &impl Print, left: u64, counts: Counts) -> Progress
     ensures { Goes (Stand.AtEnd left) counts result.stand result.counts }
 {
     let next = Progress {
         counts,
         stand: Stand::Closing,
     };
-    say(Stand::AtEnd(left), counts, text::tail_line(left), next)
+    say(rt, Stand::AtEnd(left), counts, text::tail_line(left), next)
 }
 
 // Prints the last line.
-pub fn last(counts: Counts) -> Progress
+pub fn last(rt: &impl Print, counts: Counts) -> Progress
     ensures { Goes Stand.Closing counts result.stand result.counts }
 {
     let next = Progress {
@@ -111,5 +111,5 @@ pub fn last(counts: Counts) -> Progress
         stand: Stand::Done,
     };
     let line = text::last_line(counts.clean, counts.repaired, counts.refused);
-    say(Stand::Closing, counts, line, next)
+    say(rt, Stand::Closing, counts, line, next)
 }

@@ -1,11 +1,6 @@
 -- From turn to turn: what was read, the lines of what came, and how far the report then is.
 -- Assumes nothing.
-use mathlib.Core.Path.{◌≡◌, sym, ap, ◌∙◌, subst}
-use mathlib.Core.Bool.{true, false}
-use mathlib.Core.List.{List}
-use Prim.Native.Nat.{ℕ, ◌+◌, ◌-◌, ◌*◌, ◌/◌, ◌≤◌, ◌<◌}
-use native.Mathlib.Omega.{arith}
-use lib.ListN.{length}
+use Rattle.std.proofs.Common.{◌≡◌, sym, ap, ◌∙◌, subst, true, false, List, ℕ, ◌+◌, ◌-◌, ◌*◌, ◌/◌, ◌≤◌, ◌<◌, arith, length}
 use Rattle.batch.specs.Sectors.{sector_at}
 use Rattle.batch.specs.Sectors.Apart.{length_sector}
 use Rattle.fate_counts.specs.declared.Counts.{Counts}
@@ -55,12 +50,6 @@ module _ (c : Counts) (filled : Filled) (fills : Fills (2352 * ahead c) filled) 
   pub turn-over : (p : Progress) → Told (sectors_in r) r c Going p → is_over p.stand ≡ true → Turn c p
   turn-over p (all_told l e) o = let z : true ≡ false = sym o ∙ ap is_over e in let z : ◌≡◌ {A = ℕ} 0 1 = cc in absurd (omega arith)
   turn-over p (unwritten h l f e) o = turn_of (unwritten (omega (arith, so_many)) l f e)
-
-  -- all lines went out
-  pub turn_on : (p : Progress) (s : Stand) → Told (sectors_in r) r c Going p → is_over p.stand ≡ false → s ≡ stand_after filled
-      → Turn c (record { counts = p.counts; stand = s })
-  turn_on p s (all_told l e) o q = turn_of (all_told (subst (λ (k : ℕ). Lines r c k p.counts) so_many l) q)
-  turn_on p s (unwritten h l f e) o q = let z : false ≡ true = sym o ∙ ap is_over e in let z : ◌≡◌ {A = ℕ} 0 1 = cc in absurd (omega arith)
 
 -- ---- from turn to turn
 

@@ -1,9 +1,6 @@
 -- From one step of a report to the next, where it goes on and where it does not.
 -- Assumes nothing.
-use mathlib.Core.Path.{◌≡◌, refl}
-use mathlib.Core.Bool.{true, false}
-use Prim.Native.Nat.{ℕ}
-use native.Mathlib.Omega.{arith}
+use Rattle.std.proofs.Common.{◌≡◌, refl, true, false, ℕ, arith}
 use Rattle.fate_counts.specs.declared.Counts.{Counts}
 use Rattle.report_stand.specs.declared.Progress.{Progress}
 use Rattle.report_stand.specs.declared.Stand.{Stand}

@@ -1,6 +1,7 @@
-// The report (document 01) from standard input to standard output. What one read means stands in `input_reading`, what follows from it in
+// The report (document 01) from an input to standard output. What one read means stands in `input_reading`, what follows from it in
 // `report_stand`, its steps in `report_run`, what is printed in `report_lines`; the fate of a Sector is decided in `batch` and `fate`, every character of a line in `text`.
 #![tactic(auto)]
+
 ghost use Rattle.std.specs.Prelude.{◌≡◌, ◌*◌, length};
 ghost use Rattle.input_reading.specs.Reading.{Fills};
 ghost use Rattle.fate_counts.specs.Counting.{largest};
@@ -10,16 +11,22 @@ ghost use Rattle.reporting.specs.Inner.Turn.{Turn};
 
 use fate_counts::Counts;
 use input_reading::Filled;
-use libc::STDERR_FILENO;
 use report_stand::{Progress, Stand, over};
+use std::io::Read;
 
 // Prints the lines of the whole Sectors that came; then the report stands as reading ended.
-fn tell_whole(counts: Counts, filled: Filled, received: &[u8], out: &mut [u8]) -> Progress
+fn tell_whole(
+    rt: &impl Print,
+    counts: Counts,
+    filled: Filled,
+    received: &[u8],
+    out: &mut [u8],
+) -> Progress
     requires { (length received.now ≡ 37632) × (length out.old ≡ 37632) × Fills (2352 * ahead counts) filled }
     ensures { Turn counts result }
 {
     let whole = report_stand::whole_bytes(filled.have);
-    let told = report_lines::tell_each(counts, &received[..whole], &mut out[..whole]);
+    let told = report_lines::tell_each(rt, counts, &received[..whole], &mut out[..whole]);
     let stand = told.stand;
     if over(stand) {
         return told;
@@ -32,17 +39,23 @@ fn tell_whole(counts: Counts, filled: Filled, received: &[u8], out: &mut [u8]) -
 }
 
 // Reads Sectors and prints the lines of those that came.
-fn turn(counts: Counts, received: &mut [u8], out: &mut [u8]) -> Progress
+fn turn<R: Read>(
+    rt: &impl Print,
+    input: &mut R,
+    counts: Counts,
+    received: &mut [u8],
+    out: &mut [u8],
+) -> Progress
     requires { (length received.old ≡ 37632) × (length out.old ≡ 37632) }
     ensures { Turn counts result }
 {
     let room = 2352 * report_stand::sectors_ahead(counts);
-    let filled = input_reading::fill(&mut received[..room]);
-    tell_whole(counts, filled, received, out)
+    let filled = input_reading::fill(input, &mut received[..room]);
+    tell_whole(rt, counts, filled, received, out)
 }
 
 // All turns. A loop has to end, so it goes by the Sectors counted, to the largest number of them that can be.
-fn turns(opened: Progress) -> Progress
+fn turns<R: Read>(rt: &impl Print, input: &mut R, opened: Progress) -> Progress
     requires { Turning 0 opened }
     ensures { Turning largest result }
 {
@@ -56,7 +69,7 @@ fn turns(opened: Progress) -> Progress
     let mut sectors: u64 = 0;
     while sectors < u64::MAX {
         let counts = progress.counts;
-        progress = turn(counts, &mut received, &mut out);
+        progress = turn(rt, input, counts, &mut received, &mut out);
         stand = progress.stand;
         if over(stand) {
             return progress;
@@ -68,7 +81,7 @@ fn turns(opened: Progress) -> Progress
 }
 
 // Prints the count of leftover bytes and the last line, if the input is at its end.
-fn close(run: Progress) -> Progress
+fn close(rt: &impl Print, run: Progress) -> Progress
     requires { Turning largest run }
     ensures { Reported result }
 {
@@ -77,26 +90,23 @@ fn close(run: Progress) -> Progress
         return run;
     };
     let counts = run.counts;
-    let tailed = report_lines::tail(left, counts);
+    let tailed = report_lines::tail(rt, left, counts);
     let reached = tailed.stand;
     let Stand::Closing = reached else {
         return tailed;
     };
     let counted = tailed.counts;
-    report_lines::last(counted)
+    report_lines::last(rt, counted)
 }
 
 // Says on standard error what failed.
-fn complain(stand: Stand) {
+fn complain(rt: &impl Eprint, stand: Stand) {
     match stand {
         Stand::ReadFailed => {
-            io::write_all(STDERR_FILENO, b"report: standard input could not be read\n");
+            let _ = rt.eprintln("report: standard input could not be read");
         }
         Stand::WriteFailed => {
-            io::write_all(
-                STDERR_FILENO,
-                b"report: standard output could not be written\n",
-            );
+            let _ = rt.eprintln("report: standard output could not be written");
         }
         _ => {}
     }
@@ -104,12 +114,12 @@ fn complain(stand: Stand) {
 
 // Prints the report, and says how it ended. Where reading or writing failed, nothing more is printed, so no last line says what was
 // not seen.
-pub fn report() -> Progress
+pub fn report<R: Read>(rt: &(impl Print + Eprint), input: &mut R) -> Progress
     ensures { Reported result }
 {
-    let run = turns(report_lines::open());
-    let closed = close(run);
+    let run = turns(rt, input, report_lines::open(rt));
+    let closed = close(rt, run);
     let stand = closed.stand;
-    complain(stand);
+    complain(rt, stand);
     closed
 }

@@ -1,7 +1,8 @@
 -- `empty_sectors::turn` meets its contract: it stops where a read brought nothing, or says the Sector's line.
 -- Assumes nothing.
+use Rattle.std.proofs.Common.{rules}
 use Rattle.empty_sectors.proofs.Turning.{stopped}
 use Rattle.empty_sectors.proofs.turn.Goals as goal
 
 pub returns-in_default : goal.returns-in_default
-returns-in_default g c = stopped _ c.fill-filled.result c.requires c.fill-filled.ensures c.in_default.not-More
+returns-in_default g c = stopped _ c.fill-filled.result c.requires c.fill-filled.ensures (search rules)

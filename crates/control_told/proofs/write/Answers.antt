@@ -1,0 +1,15 @@
+-- `control_told::write` meets its contract: it keeps the promise of `write_control`, and `tell_written` tells the answer.
+-- Assumes nothing.
+use mathlib.Core.Path.{refl, ap, ◌∙◌}
+use borrow.Author.Rules.{rules}
+use Rattle.control.specs.declared.Control.{Control}
+use Rattle.control_writer.specs.Writing.{writing}
+use Rattle.control_told.proofs.write.Goals as goal
+
+pub returns : goal.returns
+returns c =
+    record {
+      say = _;
+      tells = record { has_number = c.tell_written.ensures; has_values = refl };
+      kept = c.write_control.ensures ∙ ap (λ (f : Control). writing f c.args.out.now) c.fields_given-fields.ensures;
+    }

@@ -1,0 +1,12 @@
+-- `batches::tell_fates` meets its contract. The invariant: i fates are told (`Telling`).
+-- Assumes nothing.
+use Prim.Native.Nat.{◌≤◌, ◌-◌}
+use borrow.Author.Rules.{rules}
+use Rattle.exports.proofs.Fates.{Telling, telling_none, telling_more, telling_all}
+use Rattle.exports.proofs.batches.tell_fates.Given as goal
+
+abbrev pub invariant-loop-i : goal.invariant-loop-i
+invariant-loop-i l = (l.i ≤ 16) × Telling l.fates l.initial.by_number l.initial.by_count l.i l.by_number l.by_count
+
+abbrev pub decreases-loop-i : goal.decreases-loop-i
+decreases-loop-i l = 16 - l.i

@@ -1,0 +1,11 @@
+-- `legal_runs::bits_at` meets its contract: each way out is a law of `Legality`.
+-- Assumes nothing.
+use Rattle.legal_runs.proofs.Legality.{end_bits, run-bits}
+use borrow.Author.Rules.{rules}
+use Rattle.legal_runs.proofs.bits_at.Goals as goal
+
+pub returns-in_default : goal.returns-in_default
+returns-in_default c = end_bits _ _ _ c.run_at-step.ensures c.in_default.is
+
+pub returns : goal.returns
+returns c = run-bits _ _ _ c.run_at-step.ensures _ c.in-Run.is

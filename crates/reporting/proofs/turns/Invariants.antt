@@ -1,0 +1,15 @@
+-- `reporting::turns` meets its contract. The invariant: the report goes on, and so many Sectors are counted; each turn counts more, and
+-- nothing else ends it early (`Reaching`).
+-- Assumes nothing.
+use Rattle.std.proofs.Common.{◌≡◌, ◌≤◌, ◌-◌, false, length}
+use Rattle.fate_counts.specs.Counting.{largest}
+use Rattle.report_stand.specs.Standing.{is_over}
+use Rattle.report_run.specs.Run.{Turning}
+use Rattle.reporting.proofs.turns.Given as goal
+
+abbrev pub invariant-loop-sectors : goal.invariant-loop-sectors
+invariant-loop-sectors g l =
+    (l.sectors ≤ largest) × Turning l.sectors l.progress × (is_over l.progress.stand ≡ false) × (length l.received ≡ 37632) × (length l.out ≡ 37632)
+
+abbrev pub decreases-loop-sectors : goal.decreases-loop-sectors
+decreases-loop-sectors g l = largest - l.sectors
