@@ -1,5 +1,6 @@
 // The address of a Sector (clause 14.2): the time in its Header, which stands in no fixed relation to that of a Section (clause 21).
 #![tactic(auto)]
+
 ghost use Rattle.std.specs.Prelude.{◌≡◌, ◌||◌, ◌≤◌};
 ghost use Rattle.address.specs.Address.{in_user_data_or_lead_out, in_lead_in, in_range};
 ghost use Rattle.address.specs.Order.{minutes_before, rank, earlier};

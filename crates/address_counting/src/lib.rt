@@ -1,5 +1,6 @@
 // Counting the addresses of Sectors up (clause 14.2; document 02, §14).
 #![tactic(auto)]
+
 ghost use Rattle.std.specs.Prelude.{◌≡◌, ◌&&◌, true, ◌<◌};
 ghost use Rattle.address.specs.Address.{in_range};
 ghost use Rattle.address_counting.specs.Count.{last_of, left, room, next_digits, has_next, next, following};

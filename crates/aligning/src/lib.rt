@@ -1,5 +1,6 @@
 // Writing 1 to 16 scrambled Sectors with byte 0 of the first in byte 4n of a frame (clause 16; document 02, §11).
 #![tactic(auto)]
+
 ghost use Rattle.std.specs.Prelude.{◌≡◌, true, ◌+◌, ◌*◌, ◌/◌, ◌≤◌, length};
 ghost use Rattle.outcome.specs.Say.{outcome};
 ghost use Rattle.alignment.specs.Row.{is_row};

@@ -1,5 +1,6 @@
 // Sectors with byte 0 in byte 4n of a frame (clause 16; document 02, §11): the definitions and laws, and the test that both ways share.
 #![tactic(auto)]
+
 ghost use Rattle.std.specs.Prelude.{◌≡◌};
 ghost use Rattle.alignment.specs.Row.{is_row};
 

@@ -1,6 +1,7 @@
 // The state of the automaton of two to ten ZEROs (clause 19) after some bits, without a step for each: after Merging bits, after a word, and
 // before the 23rd bit of a Sync Header.
 #![tactic(auto)]
+
 ghost use Rattle.std.specs.Prelude.{◌≡◌};
 ghost use Rattle.automaton_states.specs.States.{entered, after_word, after_zeros, header_after_one, header_after_zeros};
 

@@ -1,5 +1,6 @@
 // Repair of 1 to 16 Sectors in one call (document 02, §2).
 #![tactic(auto)]
+
 ghost use Rattle.std.specs.Prelude.{◌≡◌, ◌<◌, length, replicate, set};
 ghost use Rattle.outcome.specs.Say.{cleared};
 ghost use Rattle.batch.specs.Sectors.{Sectors};

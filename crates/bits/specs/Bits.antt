@@ -2,8 +2,6 @@
 -- Assumes nothing.
 use Rattle.std.specs.Prelude.{List, [], ◌∷◌, ◌++◌, ℕ, zero, suc, ◌+◌, ◌*◌, ◌/◌, ◌%◌, ◌^◌, take, drop}
 pub mod Numbers
-pub mod Packed
-pub mod Fields
 
 -- the n lowest bits of v
 abbrev pub bits_of : ℕ → ℕ → List ℕ

@@ -1,5 +1,6 @@
 // The only Sector that repair can seek for what came in (document 01, "P and Q").
 #![tactic(auto)]
+
 ghost use Rattle.candidates.specs.Candidate.{FoundFor};
 
 // `s` becomes what came in with each P codeword mended, Sync put right and Q worked out afresh, and the answer is whether each P codeword had

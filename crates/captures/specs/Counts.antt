@@ -3,8 +3,6 @@
 -- Assumes nothing.
 use Rattle.std.specs.Prelude.{Bool, ◌&&◌, List, [], ◌∷◌, ℕ, ◌+◌, ◌-◌, ◌*◌, ◌/◌, ◌%◌, ◌<◌, leb}
 pub mod Bytes
-pub mod Round
-pub mod Places
 
 -- the counts that the bytes of a capture are
 unfoldable pub counts_of : List ℕ → List ℕ

@@ -5,7 +5,6 @@ use Rattle.std.specs.Prelude.{◌≡◌, Bool, ◌&&◌, List, [], ◌∷◌, �
 use Rattle.outcome.specs.Say.{Say, done, refused, one_then_two, cleared, Outcome, answered}
 use Rattle.captures.specs.Counts.{counts_of, bytes_of, Counts, distances, edges}
 use Rattle.captures.specs.Number.{shortest}
-pub mod Back
 pub mod One
 pub mod Filled
 pub mod Lengths

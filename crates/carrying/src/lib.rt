@@ -1,5 +1,6 @@
 // Carrying the Main Data of 1 to 16 Data Frames over into Sectors of Mode 01 (document 02, §14).
 #![tactic(auto)]
+
 ghost use Rattle.std.specs.Prelude.{◌≡◌, true, ◌*◌, length, replicate};
 ghost use Rattle.address.specs.Address.{in_range};
 ghost use Rattle.address_counting.specs.Count.{room};

@@ -1,5 +1,6 @@
 // How many bytes changed.
 #![tactic(auto)]
+
 ghost use Rattle.std.specs.Prelude.{◌≡◌, cond, eqb, min};
 ghost use Rattle.codeword.specs.Code.{changes};
 

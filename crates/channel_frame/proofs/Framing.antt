@@ -11,7 +11,7 @@ use Rattle.outcome.specs.Buffer.{Filling}
 use Rattle.outcome.specs.Buffer.Filled.{filling-none, filling_more, filling_long, filling_all}
 use Rattle.outcome.specs.Table.Entries.{tabulated-at, length-tabulated}
 use Rattle.bits.specs.Bits.{unpack}
-use Rattle.bits.specs.Bits.Packed.{length-unpack}
+use Rattle.bits.proofs.Bits.Packed.{length-unpack}
 use Rattle.words.specs.LookUp.{looked_up}
 use Rattle.fields.specs.Fields.{field_at}
 use Rattle.fields.specs.Packed.{field_read}

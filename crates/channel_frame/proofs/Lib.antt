@@ -1,2 +1,3 @@
 pub mod Header
 pub mod Framing
+pub mod ChannelFrame

@@ -5,8 +5,6 @@ use Rattle.std.specs.Prelude.{Bool, cond, not, List, ℕ, ◌+◌, ◌*◌, eqb,
 use Rattle.words.specs.Words.{byte_of, sync_header}
 use Rattle.fields.specs.Fields.{field_at}
 use Rattle.word_marks.specs.Marks.{byte_for, mark_for}
-pub mod Merging
-pub mod Own
 pub mod Lost
 pub mod HeaderThere
 

@@ -1,5 +1,6 @@
 // Reading one Channel Frame of a Section (clause 19): 588 Channel bits become 33 bytes and 33 marks.
 #![tactic(auto)]
+
 ghost use Rattle.channel_frame.specs.FrameRead.{FrameRead};
 ghost use Rattle.channel_frame.specs.Inner.{FrameWanted};
 

@@ -1,5 +1,6 @@
 // The choice of all Merging bits of a Channel Frame: its 33 words, each after its Merging bits, and the Merging bits before the next Sync Header.
 #![tactic(auto)]
+
 ghost use Rattle.std.specs.Prelude.{◌≡◌};
 ghost use Rattle.choosing.specs.Choices.{frame_choice};
 

@@ -7,12 +7,11 @@ use Rattle.codeword.specs.Code.{weight}
 use Rattle.codeword.specs.Nearest.{nearest, found_or}
 use Rattle.codeword.specs.Parity.{Parity}
 use Rattle.codeword.specs.Parity.Exists.{four_exist}
-use Rattle.erasures.specs.Agreeing.{agreeing}
+use Rattle.agreeing.specs.Agreeing.{agreeing}
 use Rattle.circ.specs.Codes.Modulo.{bytes_modulo}
 pub mod Modulo
 pub mod Parities
 pub mod Corrected
-pub mod Treated
 
 -- each element as a byte: a list of bytes as it is
 unfoldable as_bytes : List ℕ → List ℕ

@@ -11,8 +11,6 @@ use Rattle.circ.specs.Chains.{fresh_writer}
 use Rattle.circ.specs.Marked.{twice, fresh_reader}
 use Rattle.circ.specs.Steps.{writes, reads}
 pub mod ByTests
-pub mod Alike
-pub mod Known
 
 -- a state: the places, and the line that the rings stand for. It tells the store (`writer_known`, `reader_known`).
 pub record Rings : Type 0 where

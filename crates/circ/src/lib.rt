@@ -1,6 +1,7 @@
 // CIRC (clause 17, Annex C): F1-frames of 24 bytes become F2-frames of 32 and come back. Here is what a step does, in specs/, and the one thing that
 // writer and reader both do to a whole frame.
 #![tactic(auto)]
+
 ghost use Rattle.std.specs.Prelude.{◌≡◌};
 ghost use Rattle.circ.specs.Rows.{inverted};
 

@@ -1,5 +1,6 @@
 // The words of the CIRC reader (Annex C.7; document 02, §7): what C1 and C2 hand on. A word has its marks behind it.
 #![tactic(auto)]
+
 ghost use Rattle.std.specs.Prelude.{◌≡◌, length, take};
 ghost use Rattle.circ.specs.Marked.{pass_c1, pass_c2};
 

@@ -1,6 +1,7 @@
 // An F2-frame with its marks becomes the rows that carry an F1-frame (clause 17, Annex C; document 02, §7) over rings (document 02, §9): three stages of delays
 // with C1 and C2 between them.
 #![tactic(auto)]
+
 ghost use Rattle.std.specs.Prelude.{◌++◌};
 ghost use Rattle.circ_decoding.specs.Decoding.{Decodes};
 

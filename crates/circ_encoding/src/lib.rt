@@ -1,5 +1,6 @@
 // An F1-frame becomes an F2-frame (clause 17, Annex C) over rings (document 02, §9): three stages of delays with C2 and C1 between them.
 #![tactic(auto)]
+
 ghost use Rattle.circ_encoding.specs.Encoding.{Encodes};
 
 mod waits;

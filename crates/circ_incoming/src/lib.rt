@@ -1,5 +1,6 @@
 // What comes into the CIRC reader (Annex C.7; document 02, §7): a frame and its marks.
 #![tactic(auto)]
+
 ghost use Rattle.std.specs.Prelude.{◌≡◌, ◌++◌};
 ghost use Rattle.circ.specs.Marks.{lost_by, lost_marks};
 ghost use Rattle.circ.specs.Marked.{entering};

@@ -1,6 +1,7 @@
 // The CIRC reader (clause 17, Annex C; document 02, §7): F2-frames of 32 bytes, each with its mark, become F1-frames of 24 again. Its state is the bytes and
 // marks that wait, in rings in one flat store (document 02, §9), and a place for each row that waits: a mark is at its byte's place.
 #![tactic(auto)]
+
 ghost use Rattle.std.specs.Prelude.{◌≡◌, [], ◌∷◌, ◌++◌, ◌≤◌, length};
 ghost use Rattle.outcome.specs.Say.{done, cleared};
 ghost use Rattle.lines.specs.Delay.{zeros};

@@ -1,5 +1,6 @@
 // What stands in the rows of the CIRC writer (clause 17, Annex C): the bytes of an F1-frame, then Q in the C2 word, then P in the C1 word.
 #![tactic(auto)]
+
 ghost use Rattle.std.specs.Prelude.{◌≡◌};
 ghost use Rattle.circ.specs.Rows.{placed};
 ghost use Rattle.circ.specs.Chains.{with_q, with_p};

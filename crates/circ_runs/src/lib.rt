@@ -1,5 +1,6 @@
 // Runs of the CIRC writer and of the CIRC reader over lent buffers, for callers who cannot hold a state.
 #![tactic(auto)]
+
 mod lending;
 
 ghost use Rattle.std.specs.Prelude.{◌≡◌, length};

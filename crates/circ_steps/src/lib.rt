@@ -1,5 +1,6 @@
 // Single steps of the CIRC writer and of the CIRC reader for callers in other languages, who hold the state, store and places, and may begin with any.
 #![tactic(auto)]
+
 ghost use Rattle.std.specs.Prelude.{◌≡◌, []};
 ghost use Rattle.calls.specs.Step.{step};
 ghost use Rattle.circ.specs.Rings.{writer_rings, writes_in_place, reader_rings, reads_in_place};

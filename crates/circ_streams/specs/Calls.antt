@@ -11,7 +11,6 @@ use Rattle.circ.specs.Rings.{Rings, writes_in_place, fresh_writer_rings, reads_i
 pub mod Alike
 pub mod Done
 pub mod Streams
-pub mod ThereAndBack
 
 -- a call: what comes in, and what the outgoing buffer held
 pub record Call (X : Type 0) : Type 0 where

@@ -7,17 +7,11 @@ pub mod Words
 pub mod WriterWords
 pub mod WriterRows
 pub mod ReaderRows
-pub mod Mended
-pub mod ThereAndBack
 pub mod Settled
 -- with marks (document 02, §7)
 pub mod MarkedStreams
 pub mod MarkRows
 pub mod MarkedRows
-pub mod AsWritten
 -- runs of lost frames (document 02, §8)
 pub mod Weights
 pub mod Spread
-pub mod Within
-pub mod TooLong
-pub mod CallsWithin

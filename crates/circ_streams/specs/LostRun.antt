@@ -5,10 +5,6 @@ use Rattle.std.specs.Prelude.{◌≡◌, ◌⊎◌, List, [], ℕ, ◌+◌, ◌�
 use Rattle.circ.specs.Marks.{lost_by}
 use Rattle.circ_streams.specs.Streams.{MarksOf, f2_at}
 use Rattle.circ_streams.specs.Calls.{MarkedFrame, marked}
-pub mod Any
-pub mod Streams
-pub mod Calls
-pub mod Public
 
 -- the longest run after which every F1-frame comes back; one frame more always brings doubt
 abbrev pub longest_run : ℕ

@@ -8,11 +8,8 @@ use Rattle.circ.specs.Marks.{lost_by}
 use Rattle.circ.specs.Marked.{marked_at, marked_out, marked_doubt}
 pub mod Steps
 pub mod Rows
-pub mod ThereAndBack
 pub mod Fresh
 pub mod AsBefore
-pub mod Damage
-pub mod Erased
 
 -- F1-frames: 24 bytes at each step
 pub record F1Frames (f : ℕ → List ℕ) : Type 0 where

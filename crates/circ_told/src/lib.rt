@@ -1,5 +1,6 @@
 // What a step of the CIRC reader answers, in two bytes: the number, and the doubt mark.
 #![tactic(auto)]
+
 ghost use Rattle.std.specs.Prelude.{◌≡◌, get_or};
 ghost use Rattle.circ_reader.specs.Answers as readers;
 ghost use Rattle.told.specs.Told.{number_of, values_of};

@@ -1,5 +1,6 @@
 // What becomes of a word of C1 or C2 in reading, by its marks (Annex C.7; document 02, §7).
 #![tactic(auto)]
+
 ghost use Rattle.std.specs.Prelude.{◌≡◌};
 ghost use Rattle.circ.specs.Codes.{corrected, word_mark};
 ghost use Rattle.circ_words.specs.Words.{HandsOn};

@@ -1,6 +1,7 @@
 // The CIRC writer (clause 17, Annex C): F1-frames of 24 bytes become F2-frames of 32. Its state is the bytes that wait, in
 // rings in one flat store (document 02, §9), and a place for each row that waits.
 #![tactic(auto)]
+
 ghost use Rattle.std.specs.Prelude.{◌≡◌};
 ghost use Rattle.circ.specs.Chains.{fresh_writer};
 ghost use Rattle.circ_writer.specs.Answers.{say_of};

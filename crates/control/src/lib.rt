@@ -1,5 +1,6 @@
 // The fields in the Control bytes of a Section (clause 22), and whether clause 22 allows them.
 #![tactic(auto)]
+
 ghost use Rattle.std.specs.Prelude.{◌≡◌, ◌&&◌};
 ghost use Rattle.control_time.specs.Elapsed.{in_range};
 ghost use Rattle.control.specs.Fields.{track_number, decimal_digits, allowed_item, allowed_data, allowed};

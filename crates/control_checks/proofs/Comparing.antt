@@ -10,7 +10,7 @@ use lib.ListN.{length, get_or}
 use lib.Seq.{ext_get_or}
 use Rattle.outcome.specs.First.Found.{lt-or-le}
 use Rattle.lists.specs.Same.{same}
-use Rattle.lists.specs.Same.Equal.{equal_same, same_is}
+use Rattle.lists.proofs.Same.Equal.{equal_same, same_is}
 
 -- the first i places are alike
 pub record Alike (a b : List ℕ) (i : ℕ) : Type 0 where

@@ -1,5 +1,6 @@
 // What reading Control bytes asks of their fields (clause 22): a q-Mode that is known, and that the bytes are those of allowed fields.
 #![tactic(auto)]
+
 ghost use Rattle.std.specs.Prelude.{◌≡◌, not, ◌&&◌, ◌||◌, eqb};
 ghost use Rattle.lists.specs.Same.{same};
 ghost use Rattle.control.specs.Fields.{allowed};

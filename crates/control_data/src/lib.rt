@@ -1,5 +1,6 @@
 // The q-Data field of the q-channel in bytes (22.3.3 to 22.3.5).
 #![tactic(auto)]
+
 ghost use Rattle.std.specs.Prelude.{◌≡◌, ◌∷◌, ◌/◌, ◌%◌, ◌^◌, ◌<◌};
 ghost use Rattle.control.specs.Channels.{item_fields};
 ghost use Rattle.control.specs.FieldBytes.{data_bytes};

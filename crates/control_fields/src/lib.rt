@@ -1,5 +1,6 @@
 // The fields that ten bytes of a q-channel can stand for, whether clause 22 allows them or not.
 #![tactic(auto)]
+
 ghost use Rattle.std.specs.Prelude.{◌≡◌, ◌<◌};
 ghost use Rattle.control_fields.specs.Found.{copying_in, item_in, digits_in, data_in, fields_in};
 

@@ -10,10 +10,10 @@ use lib.Dec.{eqb}
 use lib.ListN.{length, get_or, take, drop, length-drop}
 use lib.Seq.{drop-drop}
 use Rattle.bits.specs.Bits.{number, unpack, pack}
-use Rattle.bits.specs.Bits.Packed.{unpack-pack}
+use Rattle.bits.proofs.Bits.Packed.{unpack-pack}
 use Rattle.bits.specs.Binary.{Binary}
 use Rattle.bits.specs.Binary.Parts.{binary_take, binary_drop}
-use Rattle.lists.specs.Same.Equal.{same_is}
+use Rattle.lists.proofs.Same.Equal.{same_is}
 use Rattle.crc.specs.Crc.{crc}
 use Rattle.crc.specs.Crc.Bits.{length-crc, binary_crc}
 use Rattle.control_reader.specs.Reading.{q_of, crc_holds}

@@ -1,5 +1,6 @@
 // Reading the 96 Control bytes of a Section (clause 22).
 #![tactic(auto)]
+
 ghost use Rattle.std.specs.Prelude.{◌≡◌, ◌+◌, ◌/◌, ◌%◌, ◌≤◌, length, take, drop};
 ghost use Rattle.bits.specs.Bits.{number, pack};
 ghost use Rattle.control_reader.specs.Reading.{q_of, crc_holds, say_of, Reads};

@@ -8,7 +8,7 @@ use lib.ListN.{length, get_or, drop, get_or-append}
 use lib.Seq.{drop-cons, get_or-drop}
 use Rattle.bits.specs.Bits.{bits_of, unpack}
 use Rattle.bits.specs.Bits.Numbers.{length-bits}
-use Rattle.bits.specs.Bits.Packed.{length-unpack, unpack-drop}
+use Rattle.bits.proofs.Bits.Packed.{length-unpack, unpack-drop}
 use Rattle.control.specs.Channels.{framed}
 use Rattle.control.specs.Channels.Framed.{framed_at}
 

@@ -1,5 +1,6 @@
 // The 96 Control bytes of a p bit and a q-channel (22.1, 22.2).
 #![tactic(auto)]
+
 ghost use Rattle.std.specs.Prelude.{◌≡◌, ◌/◌, ◌%◌, ◌^◌, ◌-◌, ◌<◌};
 ghost use Rattle.bits.specs.Bits.{unpack};
 ghost use Rattle.control.specs.Channels.{p_bit, framed};

@@ -1,6 +1,7 @@
 // The times in a Section's Control bytes (clause 22.3.3), relative and absolute. They stand in no fixed relation to the time in a Sector's Header
 // (clause 21): nothing here or above turns one into the other.
 #![tactic(auto)]
+
 ghost use Rattle.std.specs.Prelude.{◌≡◌, ltb};
 ghost use Rattle.control_time.specs.Elapsed.{in_range, elapsed};
 

@@ -1,5 +1,6 @@
 // Writing and reading Control bytes for callers in other languages: fields as numbers, in and out.
 #![tactic(auto)]
+
 ghost use Rattle.std.specs.Prelude.{◌≡◌, [], ◌∷◌};
 ghost use Rattle.outcome.specs.Say.{outcome};
 ghost use Rattle.told.specs.Told.{number_of, placed, Tells, Told};

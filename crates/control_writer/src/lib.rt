@@ -1,5 +1,6 @@
 // Writing the 96 Control bytes of a Section (clause 22).
 #![tactic(auto)]
+
 ghost use Rattle.std.specs.Prelude.{◌≡◌, ◌+◌, ◌*◌, ◌∷◌, ◌++◌, length};
 ghost use Rattle.outcome.specs.Say.{outcome};
 ghost use Rattle.bits.specs.Bits.{unpack};

@@ -1,5 +1,6 @@
 // The CRC of the q-channel (clause 22.3.6): what is left of bits by the generating polynomial, inverted.
 #![tactic(auto)]
+
 ghost use Rattle.std.specs.Prelude.{◌≡◌, ◌<◌};
 ghost use Rattle.bits.specs.Bits.{bits_of, unpack, pack};
 ghost use Rattle.crc.specs.Crc.{crc};

@@ -1,5 +1,6 @@
 // Two decimal digits in a byte (clauses 14.2 and 22.3.3), the tens in its upper half.
 #![tactic(auto)]
+
 ghost use Rattle.std.specs.Prelude.{◌≡◌};
 ghost use Rattle.digits.specs.Digits.{value_of_digits, two_digits};
 

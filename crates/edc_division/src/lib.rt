@@ -1,5 +1,6 @@
 // The EDC (clause 14.3): the remainder of bytes by the check polynomial, and the four bytes that make it 0.
 #![tactic(auto)]
+
 ghost use Rattle.std.specs.Prelude.{◌≡◌};
 ghost use Rattle.edc.specs.Bits.{bits, number_low_first};
 ghost use Rattle.edc.specs.Edc.{remainder, edc, is_zero};

@@ -1,5 +1,6 @@
 // Steps of the register of the EDC (clause 14.3) by the entries of a table: 32 at once, or eight with a byte that comes in.
 #![tactic(auto)]
+
 ghost use Rattle.std.specs.Prelude.{◌≡◌};
 ghost use Rattle.edc.specs.Register.{entries, with_byte};
 

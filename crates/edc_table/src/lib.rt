@@ -1,5 +1,6 @@
 // The table of the division by the check polynomial (clause 14.3).
 #![tactic(auto)]
+
 mod table;
 
 ghost use Rattle.std.specs.Prelude.{◌≡◌};

@@ -5,7 +5,7 @@ use Rattle.std.proofs.Common.{sym, ◌∙◌, arith}
 use Rattle.std.proofs.Math.ListN.{get_or-eq_default}
 use Rattle.captures.specs.Counts.{counts_of}
 use Rattle.captures.specs.Counts.Bytes.{length_counts}
-use Rattle.captures.specs.Counts.Places.{count_at}
+use Rattle.captures.proofs.Counts.Places.{count_at}
 
 pub no_count : (w : List ℕ) (i : ℕ) → length w / 2 ≤ i → 0 ≡ slice_index (counts_of w) i
 no_count w i h = sym (get_or-eq_default (counts_of w) 0 (omega (arith, length_counts w)))

@@ -1,5 +1,6 @@
 // The counts of a capture and the distance of two of them (document 02, §5).
 #![tactic(auto)]
+
 ghost use Rattle.std.specs.Prelude.{◌≡◌, ◌+◌, ◌*◌, slice_index};
 ghost use Rattle.captures.specs.Counts.{counts_of, distance};
 ghost use Rattle.captures.specs.Kept.{right_capture};

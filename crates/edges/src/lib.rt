@@ -1,5 +1,6 @@
 // The run at an edge of a capture (document 02, §5).
 #![tactic(auto)]
+
 ghost use Rattle.std.specs.Prelude.{◌≡◌};
 ghost use Rattle.edges.specs.Steps.{step_at};
 

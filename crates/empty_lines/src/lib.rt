@@ -1,5 +1,6 @@
 // Whether a Sector is empty, and the line with its address (document 02, §13).
 #![tactic(auto)]
+
 ghost use Rattle.std.specs.Prelude.{◌≡◌, ◌++◌};
 ghost use Rattle.text.specs.Characters.{ascii};
 ghost use Rattle.text.specs.Report.{time_text};

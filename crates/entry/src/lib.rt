@@ -1,5 +1,6 @@
 // What an entry answers that takes a Sector's 2,352 bytes and gives 2,352.
 #![tactic(auto)]
+
 ghost use Rattle.std.specs.Prelude.{◌≡◌};
 ghost use Rattle.told.specs.Told.{number_of};
 ghost use Rattle.entry.specs.Entry.{say_of};

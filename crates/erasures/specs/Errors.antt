@@ -12,7 +12,6 @@ use Rattle.codeword.specs.Code.{sums}
 pub mod Factor
 pub mod Scaled
 pub mod Right
-pub mod Filling
 
 -- four sums twisted by x: each is the next one and x times itself
 abbrev pub step : ℕ → List ℕ → List ℕ

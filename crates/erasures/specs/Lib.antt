@@ -1,4 +1,3 @@
 -- document 02, §7
 pub mod Agrees
-pub mod Agreeing
 pub mod Errors

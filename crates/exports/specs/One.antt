@@ -9,7 +9,7 @@ use Rattle.writer.specs.Write.One.{write_one}
 use Rattle.repair.specs.Repair.{Repairs}
 use Rattle.repair.specs.Repair.One.{repair_one}
 use Rattle.salvaging.specs.Salvage.{Salvages}
-use Rattle.salvaging.specs.Salvage.One.{salvages_one}
+use Rattle.salvaging.proofs.Salvage.One.{salvages_one}
 use Rattle.data_frame.specs.declared.Fields.{Fields}
 use Rattle.frame_reader.specs.Reading.{reading}
 use Rattle.frame_writer.specs.Framing.{Frames}
@@ -17,7 +17,7 @@ use Rattle.frame_writer.specs.Framing.One.{framing_one}
 use Rattle.carrying.specs.Carry.{Carries}
 use Rattle.carrying.specs.Carry.One.{carry_one}
 use Rattle.told.specs.Told.{Told}
-use Rattle.told.specs.Told.One.{told_one}
+use Rattle.told.proofs.Told.One.{told_one}
 
 module _ {x y : ℕ} {v w : List ℕ} where
   -- writing a Sector

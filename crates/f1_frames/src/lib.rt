@@ -1,5 +1,6 @@
 // F1-frames: 98 frames of 24 bytes, in each of which the bytes of a pair are exchanged.
 #![tactic(auto)]
+
 ghost use Rattle.std.specs.Prelude.{◌≡◌};
 ghost use Rattle.outcome.specs.Say.{outcome};
 ghost use Rattle.entry.specs.Entry.{say_of, answering};

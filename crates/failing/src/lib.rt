@@ -1,5 +1,6 @@
 // The codewords of P and Q (Annex A) in a Sector: which is the first that fails.
 #![tactic(auto)]
+
 ghost use Rattle.std.specs.Prelude.{◌≡◌, get_or};
 ghost use Rattle.outcome.specs.First.{first_below};
 ghost use Rattle.rspc.specs.Either.{words_of};

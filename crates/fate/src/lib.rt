@@ -1,5 +1,6 @@
 // The fate of a Sector in the report.
 #![tactic(auto)]
+
 ghost use Rattle.std.specs.Prelude.{◌≡◌, get_or};
 ghost use Rattle.repair.specs.Repair.{say_of};
 ghost use Rattle.fate.specs.Fated.{fate_from};

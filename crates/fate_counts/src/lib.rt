@@ -1,5 +1,6 @@
 // Sectors counted by their fates, for the report (document 01, "The report").
 #![tactic(auto)]
+
 ghost use Rattle.std.specs.Prelude.{◌≡◌};
 ghost use Rattle.fate_counts.specs.Counting.{one_more_of, none_counted, counted_with};
 

@@ -1,5 +1,6 @@
 // The fault of a word of a code (Annex A, Annex C.7): its sums say whether one wrong byte explains them, and where it would stand.
 #![tactic(auto)]
+
 ghost use Rattle.std.specs.Prelude.{◌≡◌, [], ◌∷◌};
 ghost use Rattle.outcome.specs.First.{first_below};
 ghost use Rattle.codeword.specs.Fault.{fault, fault_at, fits};

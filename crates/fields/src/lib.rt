@@ -1,5 +1,6 @@
 // Fields of packed bits: some bits that follow each other in bytes, the most significant first, as a number.
 #![tactic(auto)]
+
 ghost use Rattle.std.specs.Prelude.{◌≡◌, ◌+◌, ◌*◌, ◌<◌, ◌^◌};
 ghost use Rattle.fields.specs.Packed.{field_read};
 

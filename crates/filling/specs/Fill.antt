@@ -3,7 +3,7 @@
 use Rattle.std.specs.Prelude.{◌≡◌, Bool, cond, ◌&&◌, List, ℕ, eqb, leb, length}
 use Rattle.std.proofs.Math.Option.{Option, none}
 use Rattle.codeword.specs.Code.{weight}
-use Rattle.erasures.specs.Agreeing.{agreeing}
+use Rattle.agreeing.specs.Agreeing.{agreeing}
 use Rattle.codeword.specs.Nearest.{found_or, is_found}
 pub mod WaysOut
 

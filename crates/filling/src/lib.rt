@@ -1,5 +1,6 @@
 // Words of which some bytes are lost, at known places (document 02, §7): the codeword of four sums that agrees with all the others is found.
 #![tactic(auto)]
+
 ghost use Rattle.std.specs.Prelude.{◌≡◌, cond, length};
 ghost use Rattle.codeword.specs.Nearest.{is_codeword};
 ghost use Rattle.erasures.specs.Errors.{filling};

@@ -3,12 +3,12 @@
 use mathlib.Core.Path.{◌≡◌, sym, ap, subst, ◌∙◌}
 use mathlib.Core.Logic.{◌⊎◌, inl, inr}
 use mathlib.Core.List.{List}
-use Prim.Native.Nat.{ℕ, ◌+◌, ◌-◌, ◌*◌, ◌/◌, ◌%◌, ◌≤◌, ◌<◌}
+use Prim.Native.Nat.{ℕ, ◌+◌, ◌*◌, ◌/◌, ◌%◌, ◌≤◌, ◌<◌}
 use native.Mathlib.Omega.{arith}
 use lib.ListN.{length, take, drop}
 use Rattle.outcome.specs.First.Found.{lt-or-le}
 use Rattle.lists.specs.Same.{same}
-use Rattle.lists.specs.Same.Equal.{same_equal, equal_same, same_is}
+use Rattle.lists.proofs.Same.Equal.{same_equal, equal_same, same_is}
 use Rattle.sector.specs.Layout.{sync}
 use Rattle.pair_exchange.specs.Exchange.{exchanged}
 use Rattle.pair_exchange.specs.Exchange.Pairs.{exchanged-twice, exchanged-part}

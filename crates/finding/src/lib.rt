@@ -1,5 +1,6 @@
 // Finding Sectors in a row of F1-frames at a frame and n not known beforehand (clause 16; document 02, §11).
 #![tactic(auto)]
+
 ghost use Rattle.std.specs.Prelude.{◌≡◌, ◌+◌, ◌*◌, ◌/◌, ◌%◌, ◌≤◌, ◌<◌, length};
 ghost use Rattle.outcome.specs.Say.{outcome};
 ghost use Rattle.alignment.specs.Found.{place, sync_stands, n_of, frame_of, whole_from, sectors_from, finding};

@@ -1,5 +1,6 @@
 // Four bytes as one number, the first the lowest: how a register holds them.
 #![tactic(auto)]
+
 ghost use Rattle.std.specs.Prelude.{◌≡◌, ◌+◌, ◌*◌};
 ghost use Rattle.four_bytes.specs.FourBytes.{four_of, number_at};
 

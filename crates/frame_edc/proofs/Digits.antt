@@ -9,7 +9,7 @@ use Rattle.outcome.specs.Bytes.{Bytes}
 use Rattle.outcome.specs.Bytes.Kept.{bytes_nil, bytes_cons}
 use Rattle.bits.specs.Bits.{bits_of, number, unpack, pack}
 use Rattle.bits.specs.Bits.Numbers.{bits_split, bits_low, bits-number}
-use Rattle.bits.specs.Bits.Packed.{packed, unpack-append}
+use Rattle.bits.proofs.Bits.Packed.{packed, unpack-append}
 use Rattle.division.specs.Division as by
 use Rattle.division.specs.Division.{check}
 use Rattle.frame_edc.specs.FrameEdc.{divisor, remainder, edc}

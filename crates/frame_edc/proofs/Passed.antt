@@ -2,13 +2,13 @@
 -- Assumes nothing.
 use mathlib.Core.Path.{◌≡◌, refl, sym, ap, ◌∙◌}
 use mathlib.Core.List.{List, [], ◌∷◌, ◌++◌, append-nil}
-use Prim.Native.Nat.{ℕ, ◌+◌, ◌-◌, ◌≤◌, ◌<◌}
+use Prim.Native.Nat.{ℕ, ◌+◌, ◌≤◌, ◌<◌}
 use native.Mathlib.Numerals.{add-one}
 use native.Mathlib.Omega.{arith}
 use lib.ListN.{length, take, get_or}
 use lib.Seq.{take_all, take-suc}
 use Rattle.bits.specs.Bits.{bits_of, number, unpack}
-use Rattle.bits.specs.Bits.Packed.{unpack-append}
+use Rattle.bits.proofs.Bits.Packed.{unpack-append}
 use Rattle.division.specs.Division as by
 use Rattle.division.specs.Division.{divided}
 use Rattle.division.specs.Division.Register.{register_more}

@@ -1,5 +1,6 @@
 // The EDC of a Data Frame (ISO/IEC 16449, 16.4): the four bytes that make it divisible by the check polynomial.
 #![tactic(auto)]
+
 mod table;
 
 ghost use Rattle.std.specs.Prelude.{◌≡◌};

@@ -1,5 +1,6 @@
 // The first fault of Data Frames in a row (document 02, §14).
 #![tactic(auto)]
+
 ghost use Rattle.std.specs.Prelude.{◌≡◌, [], ◌/◌, length};
 ghost use Rattle.outcome.specs.Say.{done};
 ghost use Rattle.told.specs.Told.{number_of};

@@ -1,5 +1,6 @@
 // Reading a Data Frame (ISO/IEC 16449, clause 16; document 02, §14).
 #![tactic(auto)]
+
 ghost use Rattle.std.specs.Prelude.{◌≡◌, length, take};
 ghost use Rattle.outcome.specs.Say.{outcome};
 ghost use Rattle.codeword.specs.Nearest.{is_codeword};

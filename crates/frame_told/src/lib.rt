@@ -1,5 +1,6 @@
 // Data Frames for callers in other languages: fields as thirteen numbers, b29, b27, b26, b24, the bytes of the sector number, and CPR_MAI, in and out.
 #![tactic(auto)]
+
 ghost use Rattle.std.specs.Prelude.{◌≡◌, []};
 ghost use Rattle.outcome.specs.Say.{outcome};
 ghost use Rattle.data_frame.specs.DataFrame.{bit, values};

@@ -1,5 +1,6 @@
 // Writing a Data Frame (ISO/IEC 16449, clause 16; document 02, §14).
 #![tactic(auto)]
+
 ghost use Rattle.std.specs.Prelude.{◌≡◌, ◌++◌, length};
 ghost use Rattle.frame_edc.specs.FrameEdc.{edc};
 ghost use Rattle.data_frame.specs.DataFrame.{bit, information};

@@ -1,5 +1,6 @@
 // The Q codewords of a Sector (Annex A) gathered into rows, so that they stand side by side as those of P do.
 #![tactic(auto)]
+
 ghost use Rattle.std.specs.Prelude.{◌≡◌, ◌+◌, ◌%◌, ◌<◌, length};
 ghost use Rattle.gathering.specs.Rows.{q_rows, Gathered};
 ghost use Rattle.gathering.specs.Inner.Row.{q_row};

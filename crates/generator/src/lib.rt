@@ -1,6 +1,7 @@
 // Division of a word by the generator of C1 and C2 (Annex C.7), whose roots are 1, α, α² and α³: what is left, four bytes, has the word's sums. Two look-ups a byte
 // give it, so that a codeword is known and parity is found without a product.
 #![tactic(auto)]
+
 ghost use Rattle.std.specs.Prelude.{◌≡◌, ◌++◌, length, take, drop};
 ghost use Rattle.codeword.specs.Nearest.{is_codeword};
 ghost use Rattle.codeword.specs.Parity.{Parity};

@@ -1,5 +1,6 @@
 // What a register becomes by the entries of a table (Annex C.7): its four bytes looked up, or a byte taken in behind it.
 #![tactic(auto)]
+
 ghost use Rattle.std.specs.Prelude.{◌≡◌, ◌<◌, ◌≤◌};
 ghost use Rattle.generator_rows.specs.Register.{entry_of, entries, with_byte};
 

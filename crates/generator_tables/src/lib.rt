@@ -1,5 +1,6 @@
 // The tables of the division by the generator (Annex C.7): small, because each call fetches them.
 #![tactic(auto)]
+
 mod down;
 mod up;
 

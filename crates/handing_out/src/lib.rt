@@ -1,5 +1,6 @@
 // A Sector handed out for what came in.
 #![tactic(auto)]
+
 ghost use Rattle.handing_out.specs.HandedOut.{HandsOut};
 
 // The Sector `s` in the buffer `out`, where that has room for it and for nothing more; the answer is the count of its bytes that changed.

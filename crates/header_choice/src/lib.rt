@@ -1,5 +1,6 @@
 // The trace after a Sync Header, and the choice of the Merging bits before the next one (document 01, "Channel bits").
 #![tactic(auto)]
+
 ghost use Rattle.std.specs.Prelude.{◌≡◌, cond, eqb};
 ghost use Rattle.header_choice.specs.HeaderChoice.{after_header, tail_choice, before_next_header};
 ghost use Rattle.header_choice.specs.Inner.{HeaderStands};

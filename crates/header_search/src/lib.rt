@@ -1,5 +1,6 @@
 // At which edge of a capture the first Sync Header begins (document 02, §5).
 #![tactic(auto)]
+
 ghost use Rattle.std.specs.Prelude.{◌≡◌, ◌+◌, ◌<◌, length};
 ghost use Rattle.legal_runs.specs.EdgeBits.{runs};
 ghost use Rattle.header_search.specs.HeaderEdge.{begins, stands, header_edge};

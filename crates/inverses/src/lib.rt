@@ -1,5 +1,6 @@
 // Inverses of bytes in the field of 256 elements (Annex A.3, Annex C.7). No branch depends on the data.
 #![tactic(auto)]
+
 ghost use Rattle.field.specs.Inverse.{InverseOf};
 
 use products::product;

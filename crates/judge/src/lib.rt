@@ -1,5 +1,6 @@
 // Judging a Sector: it passes with its mode and address, or the first fault in the order of the rules is the answer.
 #![tactic(auto)]
+
 ghost use Rattle.std.specs.Prelude.{◌≡◌, length};
 ghost use Rattle.sector.specs.Layout.{time_of};
 ghost use Rattle.judge.specs.Judging.{judging_mode01, judging_mode00, by_mode, judging, say_of};

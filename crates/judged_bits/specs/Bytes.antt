@@ -8,7 +8,7 @@ use native.Mathlib.Omega.{arith}
 use Rattle.std.proofs.Math.ListN.{length, get_or, get_or-append, get_or-eq_default}
 use Rattle.lists.specs.Each.Case.{case}
 use Rattle.bits.specs.Bits.{bits_of, unpack}
-use Rattle.bits.specs.Bits.Packed.{length-unpack, unpack-drop}
+use Rattle.bits.proofs.Bits.Packed.{length-unpack, unpack-drop}
 use Rattle.words.specs.Words.{sync_header}
 use Rattle.merging.specs.Rule.{sync_header_bits}
 use Rattle.fields.specs.Fields.{field_at}

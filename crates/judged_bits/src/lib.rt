@@ -1,5 +1,6 @@
 // Single bits of the stream that is judged (document 02, §12): that of the Sections, and one more Sync Header behind it.
 #![tactic(auto)]
+
 ghost use Rattle.std.specs.Prelude.{◌≡◌, ◌<◌, get_or};
 ghost use Rattle.stream_rules.specs.Offences.{judged};
 ghost use Rattle.stream_windows.specs.Window.{led};

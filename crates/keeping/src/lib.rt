@@ -1,5 +1,6 @@
 // A capture kept as a list of run lengths (document 02, §5).
 #![tactic(auto)]
+
 ghost use Rattle.std.specs.Prelude.{◌≡◌};
 ghost use Rattle.outcome.specs.Say.{outcome};
 ghost use Rattle.captures.specs.Kept.{keeping};

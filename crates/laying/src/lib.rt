@@ -1,5 +1,6 @@
 // Two slices laid into a third, one behind the other.
 #![tactic(auto)]
+
 ghost use Rattle.laying.specs.Both.{Lays};
 
 use outcome::copy;

@@ -1,5 +1,6 @@
 // The runs of a capture in Channel bits (document 02, §5): how long each is, and the first that is not legal.
 #![tactic(auto)]
+
 ghost use Rattle.std.specs.Prelude.{◌≡◌};
 ghost use Rattle.replaying.specs.Replay.{first_illegal};
 ghost use Rattle.legal_runs.specs.EdgeBits.{runs, edge_bits};

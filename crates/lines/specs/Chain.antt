@@ -2,8 +2,6 @@
 -- Assumes nothing.
 use Rattle.std.specs.Prelude.{ℕ, zero, suc, ◌+◌, List, ◌++◌, take, drop, replicate}
 use Rattle.lines.specs.Delay.{rows_out, rows_next, total}
-pub mod Streams
-pub mod Zeros
 pub mod Fresh
 
 module _ (d₁ d₂ d₃ : List ℕ) (g₁ g₂ g₃ : List ℕ → List ℕ) where

@@ -1,8 +1,6 @@
 -- Delay lines, of which the delay sections of CIRC are made (Annex C.3, C.5, C.8). A line of d bytes holds what came in the last d steps, the oldest first.
 -- Assumes nothing.
 use Rattle.std.specs.Prelude.{ℕ, ◌+◌, List, [], ◌∷◌, ◌++◌, take, drop, get_or, replicate}
-pub mod Lengths
-pub mod Quiet
 
 -- what comes out of a line when x goes in: the oldest byte, or x itself where the line has no length
 unfoldable pub line_out : List ℕ → ℕ → ℕ

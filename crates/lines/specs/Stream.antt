@@ -3,9 +3,6 @@
 use Rattle.std.specs.Prelude.{ℕ, zero, suc, List, replicate}
 use Rattle.lines.specs.Delay.{rows_out, rows_next, total}
 pub mod Late
-pub mod Rows
-pub mod Series
-pub mod Beside
 
 -- the stream x, d steps later; z before the start
 unfoldable pub back : {A : Type 0} → A → (ℕ → A) → ℕ → ℕ → A

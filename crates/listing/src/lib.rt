@@ -1,5 +1,6 @@
 // The list of changes between two Sectors (document 02, §10): every byte that differs, with its position, as it was and as it is.
 #![tactic(auto)]
+
 ghost use Rattle.std.specs.Prelude.{◌+◌, ◌*◌, ◌≤◌, ◌<◌, length};
 ghost use Rattle.listing.specs.Listed.{Lists};
 ghost use Rattle.listing.specs.Inner.Note.{Notes};

@@ -1,7 +1,6 @@
 -- Whether two lists are the same, as a test.
 -- Assumes nothing.
 use Rattle.std.specs.Prelude.{Bool, true, false, ◌&&◌, List, [], ◌∷◌, ℕ, eqb}
-pub mod Equal
 
 unfoldable pub same : List ℕ → List ℕ → Bool
 same [] [] = true

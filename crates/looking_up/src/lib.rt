@@ -1,5 +1,6 @@
 // A word looked up in a table of words by a guide.
 #![tactic(auto)]
+
 ghost use Rattle.std.specs.Prelude.{◌≡◌, ◌<◌};
 ghost use Rattle.words.specs.LookUp.{looked_up};
 

@@ -1,5 +1,6 @@
 // What the lost bytes of a word are wrong by (document 02, §7), from its four sums.
 #![tactic(auto)]
+
 ghost use Rattle.std.specs.Prelude.{◌≡◌, cond, ◌<◌, eqb, length, get_or};
 ghost use Rattle.xor.specs.Added.{added};
 ghost use Rattle.erasures.specs.Errors.{others, error_at, error_of, errors};

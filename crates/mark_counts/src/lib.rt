@@ -1,5 +1,6 @@
 // Marks (document 02, §7): one that is not 0 says that its byte is lost.
 #![tactic(auto)]
+
 ghost use Rattle.std.specs.Prelude.{◌≡◌, eqb};
 ghost use Rattle.codeword.specs.Code.{weight};
 

@@ -16,7 +16,7 @@ use Rattle.codeword.specs.declared.Fault.TheVariants.{Clean, At, Lost}
 use Rattle.rspc.specs.declared.Parity.{Parity}
 use Rattle.rspc.specs.Either.{words_of, rows_of, word_of, place_of}
 use Rattle.rspc.specs.Either.Where.{home_of, row_in, place_to, home_of_lem, row_in_lem}
-use Rattle.rspc.specs.Either.Bytewise.{end_le, word_long, word_at}
+use Rattle.rspc.proofs.Either.Bytewise.{end_le, word_long, word_at}
 use Rattle.rspc.specs.Pass.{after_pass}
 use Rattle.word_mending.specs.Mend.{explained}
 

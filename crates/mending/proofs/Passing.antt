@@ -21,7 +21,7 @@ use Rattle.codeword.specs.declared.Fault.TheVariants.{Clean, At, Lost}
 use Rattle.rspc.specs.declared.Parity.{Parity}
 use Rattle.rspc.specs.Either.{words_of, rows_of, word_of, place_of, end_of}
 use Rattle.rspc.specs.Either.Where.{place-from, place_to}
-use Rattle.rspc.specs.Either.Bytewise.{word_at}
+use Rattle.rspc.proofs.Either.Bytewise.{word_at}
 use Rattle.rspc.specs.Columns.{column_of, in_column}
 use Rattle.rspc.specs.Columns.Turned.{in_column_lt, column_of_word}
 use Rattle.rspc.specs.Pass.{after_pass}

@@ -19,7 +19,7 @@ use Rattle.rspc.specs.declared.Parity.TheVariants.{P, Q}
 use Rattle.rspc.specs.Words.{p_place, q_place}
 use Rattle.rspc.specs.Words.Q.{q_parity}
 use Rattle.rspc.specs.Either.{words_of, rows_of, word_of, place_of}
-use Rattle.rspc.specs.Either.Bytewise.{word_long, word_at}
+use Rattle.rspc.proofs.Either.Bytewise.{word_long, word_at}
 use Rattle.rspc.specs.Columns.{in_column, q_column}
 use Rattle.rspc.specs.Columns.Turned.{in_column_lt, column_of_word}
 use Rattle.gathering.specs.Rows.{q_rows}

@@ -1,6 +1,7 @@
 // A pass over the codewords of one parity of a Sector (Annex A). They stand side by side in rows, those of Q once they are gathered, so
 // their sums are made in one sweep over the rows.
 #![tactic(auto)]
+
 ghost use Rattle.std.specs.Prelude.{◌≡◌, length};
 ghost use Rattle.rspc.specs.Pass.{Passed};
 ghost use Rattle.rspc.specs.PassInPlace.{each_near, Pass};

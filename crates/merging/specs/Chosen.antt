@@ -5,11 +5,8 @@ use Rattle.std.specs.Prelude.{Bool, cond, List, [], ◌∷◌, ◌++◌, ℕ, �
 use Rattle.merging.specs.Rule.{sync_header_bits, allowed}
 use Rattle.merging.specs.Dsv.{level_after, ups, downs, absolute}
 pub mod One
-pub mod Fold
-pub mod Stands
 pub mod Behind
 pub mod Better
-pub mod ThreeBits
 
 -- what is written: the bits of the Section so far, the level after them, and two counts whose difference is the DSV
 pub record SoFar : Type 0 where

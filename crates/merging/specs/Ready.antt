@@ -6,9 +6,6 @@ use Rattle.words.specs.RunRule.{gaps}
 use Rattle.merging.specs.Rule.{sync_header_bits, headers}
 use Rattle.merging.specs.Automaton.{broken, steps, live, shown, start22, passes}
 use Rattle.merging.specs.Chosen.{m100, m010, m001, m000}
-pub mod Apart
-pub mod Agrees
-pub mod Taken
 
 -- not broken, and at most eight ZEROs since the last ONE
 unfoldable pub ready : ℕ → Bool

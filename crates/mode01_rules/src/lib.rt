@@ -1,5 +1,6 @@
 // The rules of Mode 01 that no parity settles (clause 14): mode, address, EDC and Intermediate field.
 #![tactic(auto)]
+
 ghost use Rattle.mode01_rules.specs.Rules.{Tests};
 
 use address::HeaderTime;

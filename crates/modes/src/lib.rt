@@ -1,5 +1,6 @@
 // The modes of Sectors that are written (clause 14; document 02, §13), and how much user data each has.
 #![tactic(auto)]
+
 ghost use Rattle.std.specs.Prelude.{◌≡◌};
 ghost use Rattle.sector.specs.Layout.{user_length};
 ghost use Rattle.modes.specs.Modes.{is_written};

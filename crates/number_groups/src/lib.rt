@@ -1,5 +1,6 @@
 // Numbers in groups of seven bits, written into a list (document 02, §5).
 #![tactic(auto)]
+
 ghost use Rattle.number_groups.specs.Put.{Puts};
 
 // The number n in its shortest form, from place `used` on; the answer is the place behind it. Where fewer than three places are left nothing changes and the answer

@@ -1,5 +1,6 @@
 // The number at a place of a list of run lengths (document 02, §5).
 #![tactic(auto)]
+
 ghost use Rattle.std.specs.Prelude.{◌≡◌, ◌<◌};
 ghost use Rattle.number_reader.specs.Leads.{Leads};
 ghost use Rattle.number_reader.specs.Inner.{ByteAt};

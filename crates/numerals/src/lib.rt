@@ -1,5 +1,6 @@
 // Numbers as text (document 01, "The report"): the code of a hex digit.
 #![tactic(auto)]
+
 ghost use Rattle.std.specs.Prelude.{◌≡◌, ◌%◌};
 ghost use Rattle.numerals.specs.Numerals.{hex_digit};
 

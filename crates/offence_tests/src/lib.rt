@@ -1,5 +1,6 @@
 // Single tests of the judge of Sections (document 02, §12): which words may stand where, and which number is told of several offences at one bit.
 #![tactic(auto)]
+
 ghost use Rattle.std.specs.Prelude.{◌≡◌};
 ghost use Rattle.stream_rules.specs.Judging.{lowest};
 ghost use Rattle.offence_tests.specs.Known.{right_if, wrong_if};

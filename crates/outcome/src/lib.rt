@@ -1,5 +1,6 @@
 // What every entry answers, and the two things that every entry does with a lent buffer.
 #![tactic(auto)]
+
 ghost use Rattle.std.specs.Prelude.{◌≡◌, cond, eqb, length, replicate};
 ghost use Rattle.outcome.specs.Say.{cleared};
 

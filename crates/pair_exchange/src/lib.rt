@@ -1,5 +1,6 @@
 // The exchange of the bytes of each pair, in whole F1-frames (clause 16).
 #![tactic(auto)]
+
 ghost use Rattle.std.specs.Prelude.{◌≡◌, cond, ◌%◌, length};
 ghost use Rattle.pair_exchange.specs.Exchange.{exchanged, whole_frames};
 

@@ -1,6 +1,7 @@
 // Parity of P and Q put into a Sector (Annex A). The codewords stand side by side in rows, so their sums are made in one sweep over
 // the rows.
 #![tactic(auto)]
+
 ghost use Rattle.std.specs.Prelude.{◌≡◌, ◌<◌, length};
 ghost use Rattle.parities.specs.Inner.ParityRows.{ParityRows};
 ghost use Rattle.rspc.specs.Put.{PutP, PutQ};

@@ -1,5 +1,6 @@
 // Times α and products of bytes in the field of 256 elements (Annex A.3, Annex C.7). No branch depends on the data.
 #![tactic(auto)]
+
 ghost use Rattle.std.specs.Prelude.{◌≡◌};
 ghost use Rattle.field.specs.Field.{times_alpha, mul};
 

@@ -1,5 +1,6 @@
 // What the choice of Merging bits needs to know of a word of Annex D or of a SYNC, in a table of rows.
 #![tactic(auto)]
+
 ghost use Rattle.std.specs.Prelude.{◌≡◌, ◌+◌, ◌*◌, ◌<◌};
 ghost use Rattle.profiles.specs.Profiles.{profile_in, rows};
 ghost use Rattle.words.specs.Symbols.{symbols};

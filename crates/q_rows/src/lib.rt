@@ -1,5 +1,6 @@
 // The Q codewords of a Sector (Annex A) side by side, their parity included.
 #![tactic(auto)]
+
 ghost use Rattle.q_rows.specs.Laid.{Laid};
 
 // `rows` becomes the gathered rows with the Q parity behind them, and the answer is true: the columns of these 45 rows of 52 bytes are the Q

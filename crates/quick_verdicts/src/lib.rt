@@ -1,5 +1,6 @@
 // The verdict on a word of C1 or C2 (Annex C.7), quick where the word is clean: only one that isn't needs its sums.
 #![tactic(auto)]
+
 ghost use Rattle.std.specs.Prelude.{◌≡◌};
 ghost use Rattle.codeword.specs.Nearest.{verdict};
 

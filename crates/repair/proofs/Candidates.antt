@@ -16,12 +16,12 @@ use Rattle.edc.specs.Edc.Zero.{test_divisible, divisible_test}
 use Rattle.rspc.specs.Words.{p_word}
 use Rattle.rspc.specs.declared.Parity.TheVariants.{P}
 use Rattle.rspc.specs.Words.P.{length_p}
-use Rattle.rspc.specs.Either.Bytewise.{covers}
-use Rattle.rspc.specs.Words.Parity.{q_one}
+use Rattle.rspc.proofs.Either.Bytewise.{covers}
+use Rattle.rspc.proofs.Words.Parity.{q_one}
 use Rattle.address.specs.Address.{in_range}
 use Rattle.sector.specs.Layout.{bytes_from, time_of, mode_of, zeros}
 use Rattle.lists.specs.Same.{same}
-use Rattle.lists.specs.Same.Equal.{same_equal, equal_same}
+use Rattle.lists.proofs.Same.Equal.{same_equal, equal_same}
 use Rattle.sector.specs.Correct.Whole.{whole}
 use Rattle.candidates.specs.Candidate.{Candidate}
 use Rattle.mode01_rules.specs.Rules.{rules}

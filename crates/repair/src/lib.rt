@@ -1,5 +1,6 @@
 // Repair of a Sector (document 01, demand 3).
 #![tactic(auto)]
+
 ghost use Rattle.repair.specs.Repair.{Repairs, say_of};
 
 // What becomes of a Sector: it is handed out with the count of changed bytes, or refused.

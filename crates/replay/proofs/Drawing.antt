@@ -9,7 +9,7 @@ use lib.ListN.{length, get_or, set, take, drop, replicate, length-set, length-dr
 use lib.Seq.{drop-drop, get_or-drop, get_or-take, get_or-set_same, get_or-set_other, get_or-append-add, length-take-le, ext_get_or}
 use Rattle.outcome.specs.First.Found.{lt-or-le}
 use Rattle.bits.specs.Bits.{unpack}
-use Rattle.bits.specs.Bits.Packed.{length-unpack}
+use Rattle.bits.proofs.Bits.Packed.{length-unpack}
 use Rattle.replaying.specs.Replay.{channel}
 use Rattle.replaying.specs.Replay.Sizes.{Legal}
 use Rattle.replaying.specs.Replay.Headers.{channel-one}

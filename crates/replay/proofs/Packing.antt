@@ -14,7 +14,7 @@ use Rattle.outcome.specs.Bytes.{Bytes}
 use Rattle.outcome.specs.Table.{all_below}
 use Rattle.outcome.specs.Table.Entries.{and_left, and_right, below}
 use Rattle.bits.specs.Bits.{bits_of, number, unpack, pack}
-use Rattle.bits.specs.Bits.Packed.{length-pack, packed as bytes_packed}
+use Rattle.bits.proofs.Bits.Packed.{length-pack, packed as bytes_packed}
 use Rattle.captures.specs.Kept.{filled}
 use Rattle.replaying.specs.Replay.{bytes_for}
 

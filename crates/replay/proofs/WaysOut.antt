@@ -1,6 +1,6 @@
 -- The ways out of replaying a capture from an edge on: the buffer is wiped first, and its length stays.
 -- Assumes nothing.
-use mathlib.Core.Path.{◌≡◌, refl, sym, ap, ap₂, ◌∙◌}
+use mathlib.Core.Path.{◌≡◌, sym, ap, ap₂, ◌∙◌}
 use mathlib.Core.Bool.{true, false}
 use mathlib.Core.List.{List, [], ◌∷◌, ◌++◌}
 use Prim.Native.Nat.{ℕ, ◌+◌, ◌-◌, ◌*◌, ◌/◌, ◌<◌, ◌≤◌}
@@ -11,7 +11,7 @@ use Rattle.outcome.specs.Bytes.{Bytes}
 use Rattle.outcome.specs.Say.{Say, done, refused, outcome, answered, cleared}
 use Rattle.outcome.specs.Say.Refusals.{cleared-right}
 use Rattle.bits.specs.Bits.{pack}
-use Rattle.captures.specs.Counts.{counts_of, runs_of}
+use Rattle.captures.specs.Counts.{counts_of}
 use Rattle.captures.specs.Kept.{right_capture, filled}
 use Rattle.captures.specs.Kept.Lengths.{right_short}
 use Rattle.captures.specs.Kept.Filled.{wiped_length}

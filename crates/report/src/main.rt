@@ -1,5 +1,7 @@
 // Prints the report of the Sectors on standard input (document 01, "The report").
 #![tactic(auto)]
-fn main() {
-    reporting::report();
+
+fn main(rt: HostRuntime) {
+    let mut input = rt.stdin();
+    reporting::report(&rt, &mut input);
 }

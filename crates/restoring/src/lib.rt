@@ -1,5 +1,6 @@
 // A list of run lengths turned back into its capture (document 02, §5).
 #![tactic(auto)]
+
 ghost use Rattle.std.specs.Prelude.{◌+◌, ◌≤◌, length};
 ghost use Rattle.captures.specs.Kept.{Restores};
 ghost use Rattle.restoring.specs.Answers.{say_of};

@@ -1,5 +1,6 @@
 // The places of rings (document 02, §9): whether they are legal, and what they are a step later.
 #![tactic(auto)]
+
 ghost use Rattle.std.specs.Prelude.{◌≡◌, ◌&&◌, ltb};
 ghost use Rattle.rings.specs.Ring.{following};
 ghost use Rattle.rings.specs.Rings.{below, onward};

@@ -1,5 +1,6 @@
 // A step of rings without their places' moving (document 02, §9).
 #![tactic(auto)]
+
 ghost use Rattle.std.specs.Prelude.{◌≡◌};
 ghost use Rattle.rings.specs.Swap.{rings_out, rings_next};
 

@@ -1,5 +1,6 @@
 // A step of one stage's rings among those of other stages (document 02, §9), and of a word's rings together with its marks'.
 #![tactic(auto)]
+
 ghost use Rattle.std.specs.Prelude.{◌≡◌, ◌++◌, take, drop};
 ghost use Rattle.rings.specs.Swap.{rings_out, rings_next, both_out, both_next};
 

@@ -19,8 +19,6 @@ use Rattle.section_writer.specs.State.{fresh}
 use Rattle.section_writer.specs.WriteSay.{written}
 pub mod SectorsBack
 pub mod FramesBack
-pub mod SectionsBack
-pub mod ThereAndBack
 
 -- each of these is n bytes
 abbrev pub OfBytes : ℕ → List (List ℕ) → Type 0

@@ -4,9 +4,9 @@
 use Rattle.std.specs.Prelude.{◌≡◌, List, ℕ, length}
 use Rattle.calls.specs.Step.{Step, step}
 use Rattle.circ.specs.Rings.{Rings, writer_rings, reader_rings}
-use Rattle.circ.specs.Rings.Known.{writer_known, reader_known}
+use Rattle.circ.proofs.Rings.Known.{writer_known, reader_known}
 use Rattle.told.specs.Told.{Told}
-use Rattle.told.specs.Told.Steps.{step-one}
+use Rattle.told.proofs.Told.Steps.{step-one}
 
 module _ {x y : ℕ} {v w : List ℕ} where
   -- a step of the CIRC writer: number, places, store and buffer

@@ -5,7 +5,6 @@ use Rattle.rspc.specs.declared.Parity.{Parity}
 use Rattle.rspc.specs.declared.Parity.TheVariants.{P, Q}
 use Rattle.rspc.specs.Words.{p_words, q_words, p_place, q_place, p_word, q_word}
 pub mod Where
-pub mod Bytewise
 
 -- how many codewords there are, and of how many bytes
 abbrev pub words_of : Parity → ℕ

@@ -4,8 +4,6 @@ use Rattle.std.specs.Prelude.{◌≡◌, List, ℕ, ◌<◌, length, take, drop}
 use Rattle.codeword.specs.Nearest.{nearest, found_or}
 use Rattle.rspc.specs.declared.Parity.{Parity}
 use Rattle.rspc.specs.Either.{words_of, word_of, end_of}
-pub mod One
-pub mod Exists
 
 -- a word after the pass
 abbrev pub after_pass : List ℕ → List ℕ

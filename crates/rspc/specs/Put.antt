@@ -4,7 +4,6 @@
 use Rattle.std.specs.Prelude.{◌≡◌, Bool, true, List, ℕ, length, take, drop}
 use Rattle.rspc.specs.Words.{PCodewords, QCodewords}
 use Rattle.rspc.specs.Place.{InPlace}
-pub mod One
 
 -- t is the Sector s with its P parity put right
 pub record PPut (s t : List ℕ) : Type 0 where

@@ -5,7 +5,6 @@ use Rattle.outcome.specs.Table.{tabulated}
 use Rattle.codeword.specs.Code.{Codeword}
 pub mod P
 pub mod Q
-pub mod Parity
 
 -- word n, 0 to 1,169, has its LSB (half 0) in byte 2n + 12 of the Sector and its MSB (half 1) in byte 2n + 13
 abbrev pub place : ℕ → ℕ → ℕ

@@ -1,5 +1,6 @@
 // RSPC (Annex A): the two parities of a Sector, and where their codewords stand.
 #![tactic(auto)]
+
 ghost use Rattle.std.specs.Prelude.{◌≡◌};
 ghost use Rattle.rspc.specs.Either.{words_of, rows_of, place_of};
 

@@ -1,5 +1,6 @@
 // Salvage of a Sector with both parities (document 02, §10): passes over P and Q in turn until what is tried of the bytes is correct.
 #![tactic(auto)]
+
 ghost use Rattle.std.specs.Prelude.{◌≡◌, length};
 ghost use Rattle.salvaging.specs.Salvage.{InRange, Room, Salvages};
 ghost use Rattle.salvage.specs.Answers.{say_of};

@@ -1,5 +1,6 @@
 // What salvage (document 02, §10) does in turn: a pass over the codewords of one parity, and a trial of what it left.
 #![tactic(auto)]
+
 ghost use Rattle.salvage_passes.specs.Passes.{Passes};
 ghost use Rattle.salvage_passes.specs.Tries.{Decides, Tries};
 

@@ -1,5 +1,6 @@
 // The search of salvage (document 02, §10) over the passes allowed.
 #![tactic(auto)]
+
 ghost use Rattle.salvage_search.specs.Search.{Searched};
 
 use salvage_passes::{pass, tries};

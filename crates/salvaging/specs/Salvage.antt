@@ -7,10 +7,7 @@ use Rattle.sector.specs.Correct.{CorrectMode01}
 use Rattle.trial.specs.Tried.{Tried}
 use Rattle.listing.specs.Listed.{listing}
 use Rattle.salvaging.specs.Turns.{After}
-pub mod One
 pub mod Given
-pub mod More
-pub mod OnePass
 
 -- k passes over r yield s: it is what is tried of the bytes that they leave, and it is correct. The trial is on a copy: the next pass goes
 -- on from the bytes that were left.

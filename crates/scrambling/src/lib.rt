@@ -1,5 +1,6 @@
 // The scrambler of Annex B: bytes 12 to 2,351 of a Sector are added modulo 2 to the sequence.
 #![tactic(auto)]
+
 ghost use Rattle.std.specs.Prelude.{◌≡◌, length};
 ghost use Rattle.outcome.specs.Say.{outcome};
 ghost use Rattle.entry.specs.Entry.{say_of};

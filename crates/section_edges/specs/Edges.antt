@@ -2,8 +2,6 @@
 -- Assumes nothing.
 use Rattle.std.specs.Prelude.{List, [], ◌∷◌, ℕ, zero, suc, ◌+◌, ◌*◌, ◌<◌, ◌≤◌}
 pub mod Bits
-pub mod Frames
-pub mod Replayed
 
 -- the bits from each ONE to the next, where z ZEROs stand since the last; one more edge stands behind the last bit
 unfoldable pub gaps_from : ℕ → List ℕ → List ℕ

@@ -7,7 +7,7 @@ use Rattle.section_reader.specs.ReadSay.{ReadOut, read_out}
 use Rattle.captures.specs.Kept.{Restores}
 use Rattle.captures.specs.Kept.One.{restored-one as captures-one}
 use Rattle.told.specs.Told.{Told}
-use Rattle.told.specs.Told.One.{told_one}
+use Rattle.told.proofs.Told.One.{told_one}
 
 module _ {x y : ℕ} {v w : List ℕ} where
   -- reading a Section, bytes and marks

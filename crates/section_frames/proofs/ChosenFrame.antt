@@ -12,11 +12,11 @@ use Rattle.outcome.specs.First.Found.{lt-or-le}
 use Rattle.bits.specs.Bits.{bits_of}
 use Rattle.words.specs.Words.{word_of, sync0, sync1}
 use Rattle.merging.specs.Ready.{Takes, ready}
-use Rattle.merging.specs.Ready.Agrees.{taken, header_agrees_lem, header_passes}
+use Rattle.merging.proofs.Ready.Agrees.{taken, header_agrees_lem, header_passes}
 use Rattle.merging.specs.Automaton.{steps, live, start22, headed}
 use Rattle.merging.specs.Chosen.{SoFar, after, with_header, with_tail}
 use Rattle.merging.specs.Rule.{sync_header_bits}
-use Rattle.merging.specs.Ready.Taken.{word_taken, sync0-taken, sync1-taken, header_taken}
+use Rattle.merging.proofs.Ready.Taken.{word_taken, sync0-taken, sync1-taken, header_taken}
 use Rattle.merging.specs.Automaton.Speaks.{state_more, state_header}
 use Rattle.merging.specs.Automaton.Steps.{steps-append, live-first}
 use Rattle.choosing.specs.declared.FrameChoice.{FrameChoice}

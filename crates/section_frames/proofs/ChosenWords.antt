@@ -12,9 +12,9 @@ use Rattle.bits.specs.Bits.{bits_of}
 use Rattle.bits.specs.Bits.Numbers.{length-bits}
 use Rattle.words.specs.Words.{word_of}
 use Rattle.merging.specs.Ready.{Takes, ready}
-use Rattle.merging.specs.Ready.Agrees.{taken, word_agrees_lem, word_passes, word_ready}
+use Rattle.merging.proofs.Ready.Agrees.{taken, word_agrees_lem, word_passes, word_ready}
 use Rattle.merging.specs.Chosen.{SoFar, after, with_word}
-use Rattle.merging.specs.Ready.Taken.{word_taken}
+use Rattle.merging.proofs.Ready.Taken.{word_taken}
 use Rattle.merging.specs.Automaton.{StateOf}
 use Rattle.merging.specs.Automaton.Speaks.{state_more}
 use Rattle.traces.specs.declared.Choice.{Choice}

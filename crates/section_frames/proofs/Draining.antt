@@ -12,7 +12,7 @@ use lib.ListN.{length, set, take, length-set}
 use lib.Seq.{take-suc-set}
 use Rattle.bits.specs.Bits.{bits_of, unpack}
 use Rattle.bits.specs.Bits.Numbers.{bits_split, bits_low, bits-join}
-use Rattle.bits.specs.Bits.Packed.{unpack-append}
+use Rattle.bits.proofs.Bits.Packed.{unpack-append}
 use Rattle.section_frames.specs.declared.pen.Pen.{Pen}
 use Rattle.section_frames.specs.Inner.BufferBits.{Room, Inked}
 

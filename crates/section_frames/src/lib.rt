@@ -1,5 +1,6 @@
 // The 98 Channel Frames of a Section (clauses 18 and 19.4), from the tally that the Section begins with to the one that it ends with.
 #![tactic(auto)]
+
 ghost use Rattle.std.specs.Prelude.{◌≡◌};
 ghost use Rattle.section_frames.specs.Frames.{near, FramesLaid};
 

@@ -1,5 +1,6 @@
 // Reading whole Sections (clause 19): Channel bits become bytes and marks.
 #![tactic(auto)]
+
 ghost use Rattle.std.specs.Prelude.{◌≡◌, length};
 ghost use Rattle.bits.specs.Bits.{unpack};
 ghost use Rattle.section_reader.specs.Reading.{bytes_read, marks_read};

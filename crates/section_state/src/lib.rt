@@ -1,5 +1,6 @@
 // The state that a Section writer carries, signed as document 01 says it, and the tally that a Section is written with.
 #![tactic(auto)]
+
 ghost use Rattle.std.specs.Prelude.{◌≡◌, ltb};
 ghost use Rattle.section_state.specs.Carried.{most_sections, possible, level_then};
 ghost use Rattle.section_state.specs.Tallies.{beginning, dsv_then};

@@ -16,7 +16,7 @@ use Rattle.outcome.specs.Say.{done, refused, cleared, leaves}
 use Rattle.outcome.specs.Say.Refusals.{cleared-right, cleared-wrong}
 use Rattle.calls.specs.Step.{Step, step, handed_back}
 use Rattle.bits.specs.Bits.{pack, unpack}
-use Rattle.bits.specs.Bits.Packed.{packed}
+use Rattle.bits.proofs.Bits.Packed.{packed}
 use Rattle.merging.specs.Chosen.{SoFar}
 use Rattle.traces.specs.declared.Tally.{Tally}
 use Rattle.traces.specs.Traces.{Within}

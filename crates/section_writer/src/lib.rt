@@ -1,5 +1,6 @@
 // Channel bits of whole Sections (clause 19): the writer.
 #![tactic(auto)]
+
 ghost use Rattle.std.specs.Prelude.{◌≡◌, ◌<◌};
 ghost use Rattle.calls.specs.Step.{step};
 ghost use Rattle.traces.specs.Traces.{Within};

@@ -9,9 +9,6 @@ use Rattle.section_state.specs.Carried.{most_sections}
 use Rattle.section_writer.specs.declared.SectionWriter.{SectionWriter}
 use Rattle.section_writer.specs.WriteSay.{section, after_section, written}
 use Rattle.sections.specs.Stream.{Part}
-pub mod Streams
-pub mod Answers
-pub mod Back
 
 -- what a call is given: the bytes of a Section, and what the outgoing buffer holds before it
 pub record Call : Type 0 where

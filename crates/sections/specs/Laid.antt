@@ -10,8 +10,6 @@ use Rattle.section_frames.specs.Section.{word_at}
 pub mod Words
 pub mod Fields
 pub mod Frames
-pub mod ThereAndBack
-pub mod Scratch
 
 -- frame f stands in the bits from bit p on
 pub record Laid (frames control bits : List ℕ) (p f : ℕ) : Type 0 where

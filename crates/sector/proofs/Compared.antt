@@ -10,7 +10,7 @@ use lib.Seq.{take_all}
 use Rattle.sector.specs.Layout.{sync, bytes_from, zeros}
 use Rattle.sector.specs.Layout.Zeros.{length-zeros}
 use Rattle.lists.specs.Same.{same}
-use Rattle.lists.specs.Same.Equal.{same_is, unlike_lengths}
+use Rattle.lists.proofs.Same.Equal.{same_is, unlike_lengths}
 
 module _ (s field : List ℕ) (from : ℕ) where
   -- bytes that are too few are not the field

@@ -1,5 +1,6 @@
 // A Sector of a Digital Data Track (clause 14): its fields, and the tests of its rules.
 #![tactic(auto)]
+
 ghost use Rattle.std.specs.Prelude.{◌≡◌, ◌+◌, ◌<◌, ◌≤◌, length, take, drop};
 ghost use Rattle.sector.specs.Layout.{sync, bytes_from, zeros};
 ghost use Rattle.lists.specs.Same.{same};

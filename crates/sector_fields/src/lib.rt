@@ -1,5 +1,6 @@
 // The fields of a Sector around its user data (clause 14): Sync, address and mode before it, and what protects Mode 01 behind it.
 #![tactic(auto)]
+
 ghost use Rattle.std.specs.Prelude.{◌≡◌};
 ghost use Rattle.sector_fields.specs.Front.{front};
 ghost use Rattle.sector_fields.specs.Protect.{Protects};

@@ -1,5 +1,6 @@
 // The register of Annex B, figure B.1, from which the sequence is worked out.
 #![tactic(auto)]
+
 ghost use Rattle.std.specs.Prelude.{◌≡◌, ℕ, ◌+◌, ◌<◌, replicate};
 ghost use Rattle.outcome.specs.Buffer.{grown};
 ghost use Rattle.outcome.specs.Table.{tabulated};

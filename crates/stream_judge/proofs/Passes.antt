@@ -13,7 +13,7 @@ use Rattle.outcome.specs.Say.{done, refused}
 use Rattle.fields.specs.Fields.{field_at}
 use Rattle.channel_frame.specs.ChannelFrame.{word_read}
 use Rattle.fields.specs.Fields.Parts.{field_lt}
-use Rattle.stream_rules.specs.Accepted.Exactly.{word_clean}
+use Rattle.stream_rules.proofs.Accepted.Exactly.{word_clean}
 use Rattle.stream_rules.specs.Offences.{judged, right_word}
 use Rattle.stream_rules.specs.Offences.Stream.{binary_judged, length-judged}
 use Rattle.stream_rules.specs.Judging.{verdict, right_length, judging}

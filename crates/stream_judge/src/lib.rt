@@ -1,13 +1,14 @@
 // Judging Sections that somebody else wrote (document 02, §12).
 #![tactic(auto)]
+
 ghost use Rattle.std.specs.Prelude.{◌≡◌, ◌*◌, ◌≤◌, length};
 ghost use Rattle.stream_rules.specs.Judging.{judging};
 ghost use Rattle.stream_windows.specs.Window.Found.{Finding};
 ghost use Rattle.stream_judge.specs.Answers.{say_of};
 
-mod taken;
 mod calm;
 mod search;
+mod taken;
 mod words_listed;
 
 // What judging Sections answers. An offence comes with the position of its bit, 0 to 518,616: for a run that of the ONE that comes too early or of the

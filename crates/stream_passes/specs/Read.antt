@@ -5,7 +5,7 @@ use Rattle.std.proofs.Common.{sym, ap, ap₂, ◌∙◌, append_assoc, arith, eq
 use Rattle.outcome.specs.Say.{done}
 use Rattle.outcome.specs.Table.Entries.{tabulated-same}
 use Rattle.bits.specs.Bits.{unpack}
-use Rattle.bits.specs.Bits.Packed.{length-unpack, unpack-append}
+use Rattle.bits.proofs.Bits.Packed.{length-unpack, unpack-append}
 use Rattle.words.specs.declared.Symbol.{Symbol}
 use Rattle.words.specs.declared.Symbol.TheVariants.{Byte, Unknown}
 use Rattle.words.specs.Words.{words, place_of, byte_of, sync0, sync1, sync_header}
@@ -24,7 +24,7 @@ use Rattle.stream_rules.specs.Offences.Numbers.{header_number}
 use Rattle.stream_rules.specs.Offences.Stream.{binary_judged, length-judged}
 use Rattle.stream_rules.specs.Judging.{judging}
 use Rattle.stream_rules.specs.Accepted.{Accepted}
-use Rattle.stream_rules.specs.Accepted.Exactly.{accepts_exactly, whole}
+use Rattle.stream_rules.proofs.Accepted.Exactly.{accepts_exactly, whole}
 
 -- Section s of some Sections
 abbrev pub section_of : List ℕ → ℕ → List ℕ

@@ -9,7 +9,7 @@ use Rattle.outcome.specs.Table.Entries.{of_true}
 use Rattle.calls.specs.Step.{Step, step}
 use Rattle.calls.specs.Calls.{run, done_of, accepted}
 use Rattle.bits.specs.Bits.{unpack, pack}
-use Rattle.bits.specs.Bits.Packed.{length-unpack}
+use Rattle.bits.proofs.Bits.Packed.{length-unpack}
 use Rattle.words.specs.RunRule.{runs}
 use Rattle.words.specs.Words.{word_of, sync0, sync1}
 use Rattle.words.specs.Words.Different.{word_place_lem}
@@ -24,7 +24,7 @@ use Rattle.section_writer.specs.declared.SectionWriter.{SectionWriter}
 use Rattle.section_frames.specs.Section.{word_at}
 use Rattle.section_writer.specs.WriteSay.{section, after_section}
 use Rattle.sections.specs.Calls.{Call, writes, parts, section_steps, outgoing}
-use Rattle.sections.specs.Calls.Streams.{done_as_stream, steps-unpack}
+use Rattle.sections.proofs.Calls.Streams.{done_as_stream, steps-unpack}
 use Rattle.sections.specs.Grown.Section.{grown-section}
 use Rattle.sections.specs.Laid.Frames.{every_word}
 use Rattle.sections.specs.RuleHolds.{Opens}
@@ -33,7 +33,7 @@ use Rattle.sections.specs.Stream.Rules.{opens_none, all_sections, starts-at}
 use Rattle.stream_rules.specs.Offences.{judged, listed, right_word}
 use Rattle.stream_rules.specs.Judging.{right_length, judging}
 use Rattle.stream_rules.specs.Accepted.{Kept}
-use Rattle.stream_rules.specs.Accepted.Exactly.{accepts_exactly}
+use Rattle.stream_rules.proofs.Accepted.Exactly.{accepts_exactly}
 
 -- ---- runs and Sync Headers, with one more Sync Header behind
 

@@ -6,7 +6,6 @@ use Rattle.merging.specs.Rule.{sync_header_bits, starts}
 use Rattle.channel_frame.specs.ChannelFrame.{word_read}
 use Rattle.stream_rules.specs.Offences.{judged, right_word}
 use Rattle.stream_rules.specs.Judging.{right_length}
-pub mod Exactly
 
 -- in a stream of n Sections: two to ten ZEROs throughout; Sync Headers at their places and nowhere else; SYNC 0 and SYNC 1 in the first two
 -- Control places of each Section, and a listed word in each other place

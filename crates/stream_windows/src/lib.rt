@@ -1,5 +1,6 @@
 // What a window of 35 bits shows of the offences at one bit, and one of 64 bits of those at 24.
 #![tactic(auto)]
+
 ghost use Rattle.std.specs.Prelude.{◌≡◌};
 ghost use Rattle.stream_windows.specs.Window.{run_in, head_wrong};
 ghost use Rattle.stream_windows.specs.Calm.{calm, triple_calm};

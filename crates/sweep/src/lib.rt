@@ -1,5 +1,6 @@
 // The sums of many words that stand side by side, in one pass over contiguous rows, so that the compiler can vectorise it.
 #![tactic(auto)]
+
 ghost use Rattle.std.specs.Prelude.{◌≡◌, ◌<◌, length};
 ghost use Rattle.sweep.specs.Columns.{Swept, all_sums};
 ghost use Rattle.sweep.specs.Inner.Rise.{risen};

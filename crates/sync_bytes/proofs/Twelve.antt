@@ -6,7 +6,7 @@ use mathlib.Core.List.{List}
 use Prim.Native.Nat.{ℕ, ◌+◌, ◌-◌}
 use native.Mathlib.Omega.{arith}
 use lib.ListN.{take, drop}
-use Rattle.lists.specs.Same.Equal.{same_is}
+use Rattle.lists.proofs.Same.Equal.{same_is}
 use Rattle.sector.specs.Layout.{sync}
 use Rattle.pair_exchange.specs.Exchange.{exchanged}
 use Rattle.sync_bytes.specs.SyncAt.{sync_at}

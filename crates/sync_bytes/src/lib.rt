@@ -1,5 +1,6 @@
 // Sync as it stands in F1-frames (14.1, 16): the bytes of each pair are exchanged.
 #![tactic(auto)]
+
 ghost use Rattle.std.specs.Prelude.{◌≡◌};
 ghost use Rattle.sector.specs.Layout.{sync};
 ghost use Rattle.pair_exchange.specs.Exchange.{exchanged};

@@ -1,5 +1,6 @@
 // The text of the report (document 01, "The report"): its lines.
 #![tactic(auto)]
+
 mod lines;
 
 pub use lines::{fate_line, first_line, last_line, tail_line};

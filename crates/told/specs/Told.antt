@@ -2,8 +2,6 @@
 -- Assumes nothing.
 use Rattle.std.specs.Prelude.{◌≡◌, List, [], ◌∷◌, ℕ, zero, suc}
 use Rattle.outcome.specs.Say.{Say, done, refused}
-pub mod One
-pub mod Steps
 
 -- 0 where a step is done, and document 01's number where it is refused
 abbrev pub number_of : Say → ℕ

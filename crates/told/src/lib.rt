@@ -1,5 +1,6 @@
 // How an answer is told to a caller in another language: its number comes back, and the values that come with it go into lent memory.
 #![tactic(auto)]
+
 ghost use Rattle.std.specs.Prelude.{◌≡◌, [], ◌∷◌};
 
 // A number, and one value.

@@ -1,6 +1,7 @@
 // What the choice of Merging bits goes by (document 01, "Channel bits"): the level and the counts of bits at each level, the automaton's state,
 // and which of two choices is the better one.
 #![tactic(auto)]
+
 ghost use Rattle.std.specs.Prelude.{◌≡◌, ◌-◌, if◌then◌else◌, nat_eq};
 ghost use Rattle.merging.specs.Dsv.{absolute};
 ghost use Rattle.traces.specs.Better.{better_of};

@@ -1,5 +1,6 @@
 // A word's sums without one of its bytes (document 02, §7): twisted by the weight of a byte, they have it no more.
 #![tactic(auto)]
+
 ghost use Rattle.std.specs.Prelude.{◌≡◌};
 ghost use Rattle.field.specs.Field.{power};
 ghost use Rattle.erasures.specs.Errors.{step};

@@ -1,5 +1,6 @@
 // The verdict on a word of a code (Annex A, Annex C.7): what to do with it, by the fault that its sums tell.
 #![tactic(auto)]
+
 ghost use Rattle.std.specs.Prelude.{◌≡◌, ℕ, ◌<◌, length};
 ghost use Rattle.codeword.specs.Nearest.{verdict};
 ghost use Rattle.codeword.specs.Fault.{cure};

@@ -1,6 +1,7 @@
 // What the places of a Channel Frame give when it is read (document 01, "Channel bits"; document 02, §6): a byte and a mark for each word, and
 // zeros with mark 4 for a frame that is lost.
 #![tactic(auto)]
+
 ghost use Rattle.std.specs.Prelude.{◌≡◌, cond, eqb, length, replicate};
 ghost use Rattle.words.specs.Words.{sync0, sync1};
 ghost use Rattle.words.specs.LookUp.{looked_up};

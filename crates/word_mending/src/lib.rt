@@ -1,5 +1,6 @@
 // One codeword of a parity of a Sector (Annex A) mended in place, by its sums.
 #![tactic(auto)]
+
 ghost use Rattle.std.specs.Prelude.{◌≡◌, [], ◌∷◌};
 ghost use Rattle.codeword.specs.Fault.{fault};
 ghost use Rattle.rspc.specs.Columns.{in_column};

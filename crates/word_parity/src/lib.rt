@@ -1,5 +1,6 @@
 // Parity of two bytes (Annex A): those that make a codeword of the word behind which they stand. They are found from its sums.
 #![tactic(auto)]
+
 ghost use Rattle.std.specs.Prelude.{[], ◌∷◌, ◌++◌};
 ghost use Rattle.field.specs.Field.{power, mul};
 ghost use Rattle.codeword.specs.Pair.{pair};

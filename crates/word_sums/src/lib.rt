@@ -1,5 +1,6 @@
 // The first sums of a word of a code (Annex A, Annex C.7) in one pass: with each byte, sum j so far is taken times α^j and the byte is added (Horner).
 #![tactic(auto)]
+
 ghost use Rattle.std.specs.Prelude.{◌≡◌};
 ghost use Rattle.codeword.specs.Code.{sums};
 ghost use Rattle.codeword.specs.Pair.{pair};

@@ -1,1 +1,2 @@
 pub mod Leads
+pub mod Restored

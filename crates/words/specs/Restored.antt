@@ -3,7 +3,6 @@
 use Rattle.std.specs.Prelude.{cond, List, [], ℕ, ◌-◌, eqb, leb, get_or, set}
 use Rattle.bits.specs.Bits.{bits_of, number}
 use Rattle.words.specs.Words.{word_of}
-pub mod Table
 
 -- the 14 digits of a byte's word; the first is the leftmost
 abbrev pub digits_of : ℕ → List ℕ

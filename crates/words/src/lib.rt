@@ -1,5 +1,6 @@
 // The 8-to-14 code of Annex D: the words, and a guide to the byte of a word.
 #![tactic(auto)]
+
 ghost use Rattle.std.specs.Prelude.{◌≡◌};
 ghost use Rattle.words.specs.Words.{words};
 ghost use Rattle.words.specs.LookUp.{Guide};

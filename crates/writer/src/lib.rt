@@ -1,5 +1,6 @@
 // Writing a Sector (clause 14).
 #![tactic(auto)]
+
 ghost use Rattle.std.specs.Prelude.{◌≡◌, ◌≤◌, length};
 ghost use Rattle.writer.specs.Write.{Writes, say_of};
 ghost use Rattle.writer.specs.Inner.Laid.{laid};

@@ -1,5 +1,6 @@
 // The sum modulo 2, bit by bit, which the field, EDC, scrambling and the inverted parity of CIRC all use.
 #![tactic(auto)]
+
 ghost use Rattle.std.specs.Prelude.{◌≡◌, cond, eqb, length};
 ghost use Rattle.xor.specs.Added.{added};
 

@@ -1,9 +1,7 @@
 -- `address_counting::fits` meets its contract: what is no address has no room, and for an address the count is compared with what is left.
 -- Assumes nothing.
 use mathlib.Core.Path.{sym, ◌∙◌}
-use borrow.Author.Tests.{not-true, not-false}
 use Rattle.address_counting.specs.Count.{room}
-use borrow.Author.Rules.{rules}
 use Rattle.address_counting.proofs.fits.Goals as goal
 
 pub returns-then-not-in_range : goal.returns-then-not-in_range

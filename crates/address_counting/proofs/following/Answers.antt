@@ -1,9 +1,7 @@
 -- `address_counting::following` meets its contract: where the area does not go on the address stays.
 -- Assumes nothing.
 use mathlib.Core.Path.{sym, ◌∙◌}
-use borrow.Author.Tests.{not-true, not-false}
 use Rattle.address_counting.specs.Count.{following}
-use borrow.Author.Rules.{rules}
 use Rattle.address_counting.proofs.following.Goals as goal
 
 pub returns-then-not-has_next : goal.returns-then-not-has_next

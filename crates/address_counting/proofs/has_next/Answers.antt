@@ -1,11 +1,9 @@
 -- `address_counting::has_next` meets its contract: what is no address has none behind it, and an address is compared with the last of its area.
 -- Assumes nothing.
 use mathlib.Core.Path.{sym, ap, ◌∙◌}
-use borrow.Author.Tests.{not-true, not-false}
 use Rattle.address.specs.declared.HeaderTime.{HeaderTime}
 use Rattle.address.specs.Order.{earlier}
 use Rattle.address_counting.specs.Count.{has_next}
-use borrow.Author.Rules.{rules}
 use Rattle.address_counting.proofs.has_next.Goals as goal
 
 pub returns-then-not-in_range : goal.returns-then-not-in_range

@@ -1,7 +1,6 @@
 -- `address_counting::last_of` meets its contract: the area tells which it is.
 -- Assumes nothing.
 use mathlib.Core.Path.{sym, ◌∙◌}
-use borrow.Author.Rules.{rules}
 use Rattle.address_counting.proofs.last_of.Goals as goal
 
 pub returns-then-in_lead_in : goal.returns-then-in_lead_in

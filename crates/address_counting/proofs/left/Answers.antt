@@ -6,7 +6,6 @@ use Rattle.address.specs.Order.{rank}
 use Rattle.address_counting.specs.Count.{left}
 use Rattle.address_counting.specs.Count.OneMore.{before_last}
 use Rattle.address_counting.proofs.Areas.{last_small}
-use borrow.Author.Rules.{rules}
 use Rattle.address_counting.proofs.left.Goals as goal
 
 pub overflow_add-result : goal.overflow_add-result

@@ -4,7 +4,6 @@ use mathlib.Core.Path.{◌∙◌}
 use borrow.Author.Tests.{eq-eqb, ne_eqb}
 use Rattle.address_counting.specs.Count.{next}
 use Rattle.address_counting.proofs.Areas.{frame_small, second-small, minute-small}
-use borrow.Author.Rules.{rules}
 use Rattle.address_counting.proofs.next.Goals as goal
 
 pub next_digits-requires : goal.next_digits-requires

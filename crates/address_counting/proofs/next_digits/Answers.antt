@@ -2,7 +2,6 @@
 -- Assumes nothing.
 use borrow.Author.Tests.{eq-eqb, ne_eqb}
 use Rattle.address_counting.specs.Count.{next_digits}
-use borrow.Author.Rules.{rules}
 use Rattle.address_counting.proofs.next_digits.Goals as goal
 
 pub returns-then-b-eq9 : goal.returns-then-b-eq9

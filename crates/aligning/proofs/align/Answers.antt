@@ -2,7 +2,6 @@
 -- Assumes nothing.
 use mathlib.Core.Path.{sym, ◌∙◌}
 use native.Mathlib.Omega.{arith}
-use borrow.Author.Rules.{rules}
 use borrow.Author.Tests.{not-true, not-false}
 use lib.ListN.{length}
 use Rattle.alignment.specs.Row.Counted.{row-whole, row_most}
@@ -29,12 +28,11 @@ returns-then-out-frame_bytes c =
     (λ e. c.if-out-frame_bytes.true (e ∙ sym c.frame_bytes.ensures))
 
 pub put_aligned-requires : goal.put_aligned-requires
-put_aligned-requires c =
-    (
-      sym c.in_row-fits.ensures ∙ not-false c.in_row-fits.result (ap not c.if-not-fits.false),
-      c.if-n-gt5.false,
-      c.if-out-frame_bytes.false ∙ c.frame_bytes.ensures,
-    )
+put_aligned-requires c = (
+  sym c.in_row-fits.ensures ∙ not-false c.in_row-fits.result (ap not c.if-not-fits.false),
+  c.if-n-gt5.false,
+  c.if-out-frame_bytes.false ∙ c.frame_bytes.ensures,
+)
 
 pub returns : goal.returns
 returns c =

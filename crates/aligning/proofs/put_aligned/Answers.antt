@@ -1,6 +1,5 @@
 -- `aligning::put_aligned` meets its contract: zeros, the Sectors with their pairs exchanged and zeros are laid one behind the other (`Laying`).
 -- Assumes nothing.
-use borrow.Author.Rules.{rules}
 use lib.ListN.{length}
 use Rattle.alignment.specs.Row.Counted.{row-whole}
 use Rattle.aligning.proofs.Laying.{laid_in}

@@ -1,7 +1,6 @@
 -- `alignment::in_row` meets its contract: each way out is a law of `Counted`.
 -- Assumes nothing.
 use native.Mathlib.Omega.{arith}
-use borrow.Author.Rules.{rules}
 use Rattle.alignment.specs.Row.Counted.{is_row_lem, not-whole, not-one, too_many, no_size}
 use Rattle.alignment.proofs.in_row.Goals as goal
 

@@ -10,7 +10,7 @@ use Rattle.std.proofs.Math.ListN.{take}
 use Rattle.std.proofs.Math.Seq.{take-append-le}
 use Rattle.outcome.specs.First.Found.{found_first}
 use Rattle.outcome.specs.Say.{done, Outcome, outcome}
-use Rattle.lists.specs.Same.Equal.{equal_same, same_equal}
+use Rattle.lists.proofs.Same.Equal.{equal_same, same_equal}
 use Rattle.sector.specs.Layout.{sync, zeros}
 use Rattle.f1_frames.specs.Frames.{bytes_of, join}
 use Rattle.f1_frames.specs.Frames.Placed.{length_of, f1_of}

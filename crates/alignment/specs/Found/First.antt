@@ -7,7 +7,7 @@ use Rattle.std.proofs.Math.ListN.{length-take, length-drop}
 use Rattle.outcome.specs.First.{First}
 use Rattle.outcome.specs.First.Found.{lt-or-le, first_below_lem}
 use Rattle.outcome.specs.Table.Entries.{length-tabulated}
-use Rattle.lists.specs.Same.Equal.{unlike_lengths}
+use Rattle.lists.proofs.Same.Equal.{unlike_lengths}
 use Rattle.sector.specs.Layout.{sync}
 use Rattle.f1_frames.specs.Frames.{byte_in, bytes_of}
 use Rattle.alignment.specs.Found.{bytes_in, place, sync_stands, n_of, frame_of}

@@ -1,7 +1,6 @@
 -- `automaton_states::after_word` meets its contract, by its test.
 -- Assumes nothing.
 use borrow.Author.Tests.{eq-eqb, ne_eqb}
-use borrow.Author.Rules.{rules}
 use Rattle.automaton_states.proofs.after_word.Goals as goal
 
 pub returns-then-run-eq-BROKEN : goal.returns-then-run-eq-BROKEN

@@ -1,7 +1,6 @@
 -- `automaton_states::after_zeros` meets its contract, by its tests.
 -- Assumes nothing.
 use borrow.Author.Tests.{lt-ltb, le-ltb, le-leb, lt-leb}
-use borrow.Author.Rules.{rules}
 use Rattle.automaton_states.proofs.after_zeros.Goals as goal
 
 pub returns-then-run-ge-BROKEN : goal.returns-then-run-ge-BROKEN

@@ -2,7 +2,6 @@
 -- Assumes nothing.
 use borrow.Author.Tests.{eq-eqb, ne_eqb, lt-ltb, le-ltb}
 use Rattle.automaton_states.specs.States.{entered}
-use borrow.Author.Rules.{rules}
 use Rattle.automaton_states.proofs.enter.Goals as goal
 
 pub returns-then-z-lt2 : goal.returns-then-z-lt2

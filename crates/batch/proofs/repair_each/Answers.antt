@@ -1,10 +1,8 @@
 -- `batch::repair_each` meets its contract. The invariant: i Sectors are repaired, and the rest of the buffer is as it was (`Repairing`);
 -- a turn is `repairing_more`.
 -- Assumes nothing.
-use Prim.Native.Nat.{◌-◌}
-use native.Mathlib.Omega.{arith}
 use borrow.Author.Rules.{rules}
-use Rattle.batch.proofs.Repairing.{Repairing, repairing_none, repairing_long, repairing_more, repairing_all}
+use Rattle.batch.proofs.Repairing.{repairing_none, repairing_more, repairing_all}
 use Rattle.batch.proofs.repair_each.Goals as goal
 
 pub loop-i-init : goal.loop-i-init

@@ -2,9 +2,7 @@
 -- a turn is `repairing_more`.
 -- Assumes nothing.
 use Prim.Native.Nat.{◌-◌}
-use native.Mathlib.Omega.{arith}
-use borrow.Author.Rules.{rules}
-use Rattle.batch.proofs.Repairing.{Repairing, repairing_none, repairing_long, repairing_more, repairing_all}
+use Rattle.batch.proofs.Repairing.{Repairing}
 use Rattle.batch.proofs.repair_each.Given as goal
 
 abbrev pub invariant-loop-i : goal.invariant-loop-i

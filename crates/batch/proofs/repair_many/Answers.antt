@@ -1,6 +1,5 @@
 -- `batch::repair_many` meets its contract: each way out is a law of `WaysOut`, or the batch is taken.
 -- Assumes nothing.
-use borrow.Author.Rules.{rules}
 use Rattle.batch.proofs.WaysOut.{ways}
 use Rattle.batch.proofs.repair_many.Goals as goal
 

@@ -4,7 +4,7 @@ use Rattle.std.specs.Prelude.{◌≡◌, Bool, List, ℕ, length}
 use Rattle.std.proofs.Common.{sym, ◌∙◌, subst}
 use Rattle.std.proofs.Math.Decide.{ℕ_discrete}
 use Rattle.rspc.specs.declared.Parity.TheVariants.{P}
-use Rattle.rspc.specs.Pass.One.{passed_one}
+use Rattle.rspc.proofs.Pass.One.{passed_one}
 use Rattle.trial.specs.Tried.{Tried}
 use Rattle.trial.specs.Tried.One.{tried_one}
 use Rattle.candidates.specs.Candidate.{Made, FoundFor}

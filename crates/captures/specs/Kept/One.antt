@@ -1,6 +1,6 @@
 -- A list is the list of one row of numbers, so that what restoring says and leaves is determined.
 -- Assumes nothing.
-use Rattle.std.specs.Prelude.{◌≡◌, refl, List, [], ◌∷◌, ◌++◌, ℕ, ◌+◌, ◌≤◌, length}
+use Rattle.std.specs.Prelude.{◌≡◌, refl, List, [], ◌∷◌, ◌++◌, ℕ, ◌≤◌, length}
 use Rattle.std.proofs.Common.{sym, ap, ap₂, ◌∙◌, arith, length-append}
 use Rattle.outcome.specs.Say.{Say, done}
 use Rattle.captures.specs.Number.{shortest}

@@ -2,10 +2,8 @@
 -- Assumes nothing.
 use mathlib.Core.Path.{sym, ◌∙◌}
 use native.Mathlib.Omega.{arith}
-use borrow.Author.Tests.{not-false}
 use Rattle.address_counting.specs.Count.Bytes.{and_both}
 use Rattle.carrying.proofs.WaysOut.{ways, on_done}
-use borrow.Author.Rules.{rules}
 use Rattle.std.proofs.Common.{ap, not}
 use Rattle.carrying.proofs.carry.Goals as goal
 

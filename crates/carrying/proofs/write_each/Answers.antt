@@ -2,10 +2,9 @@
 -- `writing_more`.
 -- Assumes nothing.
 use mathlib.Core.Path.{sym, ◌∙◌}
-use Prim.Native.Nat.{◌-◌}
 use native.Mathlib.Omega.{arith}
 use borrow.Author.Rules.{rules}
-use Rattle.carrying.proofs.Writing.{Writing, writing-none, writing_more, writing_all}
+use Rattle.carrying.proofs.Writing.{writing-none, writing_more, writing_all}
 use Rattle.carrying.proofs.write_each.Goals as goal
 
 pub loop-i-init : goal.loop-i-init

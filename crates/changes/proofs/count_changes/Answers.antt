@@ -1,6 +1,5 @@
 -- `changes::count_changes` meets its contract: the loop has counted the places that it passed (`Counting`).
 -- Assumes nothing.
-use Prim.Native.Nat.{◌-◌}
 use mathlib.Core.Path.{sym, ◌∙◌}
 use mathlib.Core.Logic.{inl, inr, ⊎_elim}
 use native.Mathlib.Omega.{arith}

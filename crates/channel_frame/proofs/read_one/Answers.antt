@@ -1,7 +1,6 @@
 -- `channel_frame::read_one` meets its contract: each refusal is a law of `Framing`, and `read_words` promises the rest.
 -- Assumes nothing.
 use Rattle.channel_frame.proofs.Framing.{wrong-channel, wrong-frame, wrong_bytes, wrong_marks}
-use borrow.Author.Rules.{rules}
 use Rattle.channel_frame.proofs.read_one.Goals as goal
 
 pub returns-then-channel-ne7203 : goal.returns-then-channel-ne7203

@@ -2,11 +2,8 @@
 -- read is one more (`words_more`).
 -- Assumes nothing.
 use mathlib.Core.Path.{sym, ◌∙◌}
-use Prim.Native.Nat.{◌-◌}
 use native.Mathlib.Omega.{arith}
-use borrow.Author.Rules.{rules}
-use Rattle.bits.specs.Bits.{unpack}
-use Rattle.channel_frame.proofs.Framing.{Words, words-none, words_more, words_long, field_in, header_stands, first_half_missing, second_half_missing, frame-missed, frame-taken}
+use Rattle.channel_frame.proofs.Framing.{words-none, words_more, words_long, field_in, header_stands, first_half_missing, second_half_missing, frame-missed, frame-taken}
 use Rattle.channel_frame.proofs.read_words.Goals as goal
 
 pub returns-then-field-ne2049 : goal.returns-then-field-ne2049

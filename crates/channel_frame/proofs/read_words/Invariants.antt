@@ -1,12 +1,9 @@
 -- `channel_frame::read_words` meets its contract. The invariant: the first i places of both buffers hold what the words there say (`Words`); a word that is
 -- read is one more (`words_more`).
 -- Assumes nothing.
-use mathlib.Core.Path.{sym, ◌∙◌}
 use Prim.Native.Nat.{◌-◌}
-use native.Mathlib.Omega.{arith}
-use borrow.Author.Rules.{rules}
 use Rattle.bits.specs.Bits.{unpack}
-use Rattle.channel_frame.proofs.Framing.{Words, words-none, words_more, words_long, field_in, header_stands, first_half_missing, second_half_missing, frame-missed, frame-taken}
+use Rattle.channel_frame.proofs.Framing.{Words}
 use Rattle.channel_frame.proofs.read_words.Given as goal
 
 abbrev pub invariant-loop-i : goal.invariant-loop-i

@@ -1,11 +1,7 @@
 -- `choosing::choose_frame` meets its contract. The invariant: the words before place i are chosen, and the trace is the one after them (`Chosen`).
 -- Assumes nothing.
-use mathlib.Core.Path.{◌≡◌, refl}
 use Prim.Native.Nat.{◌-◌}
-use native.Mathlib.Omega.{arith}
-use lib.ListN.{length}
-use borrow.Author.Rules.{rules}
-use Rattle.choosing.proofs.FrameLoop.{Chosen, chosen_none, chosen_more, chosen_all}
+use Rattle.choosing.proofs.FrameLoop.{Chosen}
 use Rattle.choosing.proofs.choose_frame.Given as goal
 
 abbrev pub invariant-loop-i : goal.invariant-loop-i

@@ -6,7 +6,7 @@ use Rattle.bits.specs.Binary.Parts.{binary_append, binary_bits}
 use Rattle.bits.specs.Bits.{bits_of}
 use Rattle.bits.specs.Bits.Numbers.{length-bits}
 use Rattle.merging.specs.Automaton.{passes}
-use Rattle.merging.specs.Chosen.ThreeBits.{word_three, word_binary}
+use Rattle.merging.proofs.Chosen.ThreeBits.{word_three, word_binary}
 use Rattle.words.specs.Symbols.{bits_at}
 use Rattle.traces.specs.declared.Choice.{Choice}
 use Rattle.traces.specs.declared.Trace.{Trace}

@@ -5,7 +5,6 @@ use native.Mathlib.Omega.{arith}
 use lib.ListN.{length, take}
 use lib.Seq.{length-take-le}
 use Rattle.outcome.specs.Buffer.Lengths.{same_lengths}
-use borrow.Author.Rules.{rules}
 use Rattle.circ_codes.proofs.front.Goals as goal
 
 pub slice_bounds-copy-end : goal.slice_bounds-copy-end

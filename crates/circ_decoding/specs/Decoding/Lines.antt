@@ -22,7 +22,7 @@ use Rattle.circ.specs.Rows.{mask, inverted, reader_before_c1, reader_between, re
 use Rattle.circ.specs.Marks.{lost_marks}
 use Rattle.circ.specs.Marks.Lost.{length_lost}
 use Rattle.circ.specs.Codes.{treated, doubted}
-use Rattle.circ.specs.Codes.Treated.{length-treated}
+use Rattle.circ.proofs.Codes.Treated.{length-treated}
 use Rattle.circ.specs.Marked.{twice, entering, pass_c1, pass_c2, marked_next, marked_rows}
 use Rattle.circ.specs.Rings.{reader_waits, marked_waits, shared}
 use Rattle.circ_decoding.specs.Decoding.{from_c1, store_at_c1, from_c2, store_at_c2, decoded, store_after}

@@ -1,9 +1,7 @@
 -- `circ_incoming::enter` meets its contract: the frame with its parity turned back in front, the marks that are kept behind (`enters`).
 -- Assumes nothing.
-use mathlib.Core.Path.{ap}
 use mathlib.Core.List.{◌++◌}
-use native.Mathlib.Omega.{arith}
-use lib.ListN.{length, take, drop, replicate, length-append}
+use lib.ListN.{length, take, drop, replicate}
 use Rattle.outcome.specs.Buffer.Lengths.{same_lengths}
 use Rattle.circ_incoming.proofs.Keeping.{enters, put_behind}
 use borrow.Author.Rules.{rules}

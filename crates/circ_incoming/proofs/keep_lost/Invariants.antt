@@ -1,11 +1,8 @@
 -- `circ_incoming::keep_lost` meets its contract: before i the marks are those that are kept (`Kept`).
 -- Assumes nothing.
 use Prim.Native.Nat.{◌-◌}
-use native.Mathlib.Omega.{arith}
 use lib.ListN.{length}
-use Rattle.outcome.specs.Buffer.Filled.{filling_long}
-use Rattle.circ_incoming.proofs.Keeping.{Kept, kept-none, kept_more, kept_all}
-use borrow.Author.Rules.{rules}
+use Rattle.circ_incoming.proofs.Keeping.{Kept}
 use Rattle.circ_incoming.proofs.keep_lost.Given as goal
 
 abbrev pub invariant-loop-i : goal.invariant-loop-i

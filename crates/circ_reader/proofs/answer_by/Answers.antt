@@ -1,7 +1,6 @@
 -- `circ_reader::answer_by` meets its contract: `doubt` goes by the same two tests as the code.
 -- Assumes nothing.
 use Rattle.circ_reader.proofs.Marks.{marked_28, marked_29, not-marked}
-use borrow.Author.Rules.{rules}
 use Rattle.circ_reader.proofs.answer_by.Goals as goal
 
 pub returns-then-rows-ne0 : goal.returns-then-rows-ne0

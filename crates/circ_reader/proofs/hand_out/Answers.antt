@@ -4,14 +4,12 @@ use mathlib.Core.Path.{ap, ◌∙◌}
 use native.Mathlib.Omega.{arith}
 use lib.ListN.{length}
 use Rattle.outcome.specs.Buffer.Lengths.{same_lengths}
-use borrow.Author.Rules.{rules}
 use Rattle.circ_reader.proofs.hand_out.Goals as goal
 
 pub returns : goal.returns
-returns c =
-    (
-      c.answer_by.ensures,
-      same_lengths c.copy.result (length c.collect-f1.result) (length c.args.out.now) _ c.collect-f1.result _ c.copy.ensures
-          (ap length c.collect-f1.ensures ∙ omega (arith, c.requires.1))
-          ∙ c.collect-f1.ensures,
-    )
+returns c = (
+  c.answer_by.ensures,
+  same_lengths c.copy.result (length c.collect-f1.result) (length c.args.out.now) _ c.collect-f1.result _ c.copy.ensures
+      (ap length c.collect-f1.ensures ∙ omega (arith, c.requires.1))
+      ∙ c.collect-f1.ensures,
+)

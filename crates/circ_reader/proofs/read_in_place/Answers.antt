@@ -14,7 +14,6 @@ use Rattle.circ.specs.Steps.{fits_reader}
 use Rattle.circ.specs.Steps.Fits.{frame-wrong, marks_wrong, both_fit}
 use Rattle.circ.specs.Rings.{Rings, rings_at, reader_waits, reader_rings}
 use Rattle.circ.specs.Rings.ByTests.{wrong_incoming, wrong-outgoing, wrong-place, right}
-use borrow.Author.Rules.{rules}
 use Rattle.std.proofs.Common.{not}
 use Rattle.circ_reader.proofs.read_in_place.Goals as goal
 

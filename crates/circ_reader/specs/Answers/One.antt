@@ -6,7 +6,7 @@ use Rattle.outcome.specs.Say.{Say, done, refused}
 use Rattle.calls.specs.Step.{Step, step}
 use Rattle.calls.specs.Step.Same.{same_step}
 use Rattle.circ.specs.Rings.{Rings, reader_rings}
-use Rattle.circ.specs.Rings.Known.{reader_known}
+use Rattle.circ.proofs.Rings.Known.{reader_known}
 use Rattle.circ_reader.specs.declared.ReaderAnswer as reading
 use Rattle.circ_reader.specs.declared.ReaderAnswer.TheVariants as read
 use Rattle.circ_reader.specs.Answers.{say_of}

@@ -7,7 +7,6 @@ use Rattle.circ.specs.Rings.{reader_rings}
 use Rattle.circ_runs.specs.Coders.{reading_in_place}
 use Rattle.circ_runs.proofs.Lent.{lent_in_lem}
 use Rattle.circ_runs.proofs.Leaving.{leaves_all, frame-and_marks}
-use borrow.Author.Rules.{rules}
 use Rattle.circ_runs.proofs.read_frame.Goals as goal
 
 pub slice_bounds-read_in_place-end : goal.slice_bounds-read_in_place-end

@@ -1,14 +1,12 @@
 -- `run` meets its contract: after each turn the run is what is left so far and behind it the rest (`Running`).
 -- Assumes nothing.
 use borrow.Author.Rules.{rules}
-use Prim.Native.Nat.{◌-◌}
-use lib.ListN.{length}
 use mathlib.Core.Path.{ap₂}
-use Rattle.circ.specs.Rings.{Rings, writer_rings, fresh_writer_rings, reader_rings, fresh_reader_rings}
-use Rattle.circ.specs.Rings.Known.{writer_rest, reader_rest}
+use Rattle.circ.specs.Rings.{Rings, writer_rings, reader_rings}
+use Rattle.circ.proofs.Rings.Known.{writer_rest, reader_rest}
 use Rattle.circ_runs.specs.Inner.Coding.{coding, one_of}
 use Rattle.circ_runs.proofs.Leaving.{of_reader, of_writer}
-use Rattle.circ_runs.proofs.Running.{Running, running_none, running_more, running_all}
+use Rattle.circ_runs.proofs.Running.{running_none, running_more, running_all}
 use Rattle.circ_runs.proofs.run.Goals as goal
 
 pub loop-steps-init : goal.loop-steps-init

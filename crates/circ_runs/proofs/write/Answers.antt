@@ -2,7 +2,6 @@
 -- Assumes nothing.
 use mathlib.Core.Path.{◌∙◌}
 use Rattle.circ_runs.specs.Coders.Alike.{writing_alike}
-use borrow.Author.Rules.{rules}
 use Rattle.circ_runs.proofs.write.Goals as goal
 
 pub returns : goal.returns

@@ -1,6 +1,5 @@
 -- `write_frame` meets its contract: it is what the step gives, with its answer in two bytes (`leaves_all`).
 -- Assumes nothing.
-use borrow.Author.Rules.{rules}
 use Rattle.circ_runs.specs.Coders.{writing_in_place}
 use Rattle.circ_runs.proofs.Leaving.{leaves_all, no_value}
 use Rattle.circ_runs.proofs.write_frame.Goals as goal

@@ -12,8 +12,8 @@ use Rattle.circ.specs.Codes.{q_of, p_of}
 use Rattle.circ.specs.Marked.{fresh_reader, marked_out, marked_doubt, marked_next}
 use Rattle.circ.specs.Steps.{fits_writer, fits_reader}
 use Rattle.circ.specs.Rings.{Rings, writer_waits, fresh_writer_rings, reader_waits, fresh_reader_rings}
-use Rattle.circ.specs.Rings.Alike.{as_lines, alike}
-use Rattle.circ.specs.Rings.Known.{writer_legal, reader_legal}
+use Rattle.circ.proofs.Rings.Alike.{as_lines, alike}
+use Rattle.circ.proofs.Rings.Known.{writer_legal, reader_legal}
 use Rattle.circ_runs.specs.Runs.{Call, lent, unlent, Left, two_bytes, before, in_front, runs}
 use Rattle.circ_runs.specs.Coders.{writing, reading, writing_in_place, reading_in_place}
 

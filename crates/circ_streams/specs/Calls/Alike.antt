@@ -14,8 +14,8 @@ use Rattle.circ.specs.Codes.{q_of, p_of}
 use Rattle.circ.specs.Marked.{fresh_reader, marked_out, marked_doubt, marked_next}
 use Rattle.circ.specs.Steps.{fits_writer}
 use Rattle.circ.specs.Rings.{Rings, writer_waits, fresh_writer_rings, reader_waits, fresh_reader_rings}
-use Rattle.circ.specs.Rings.Alike.{as_lines, alike, never_six, done_as_lines}
-use Rattle.circ.specs.Rings.Known.{writer_legal, reader_legal}
+use Rattle.circ.proofs.Rings.Alike.{as_lines, alike, never_six, done_as_lines}
+use Rattle.circ.proofs.Rings.Known.{writer_legal, reader_legal}
 use Rattle.circ_streams.specs.Calls.{Call, MarkedFrame, writer_does, reader_does, writer_in_place, reader_in_place, writer_done, reader_done, writer_done_in_place, reader_done_in_place, fits_both, outs}
 
 -- what the buffers hold is no matter of rings

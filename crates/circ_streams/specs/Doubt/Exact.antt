@@ -12,14 +12,14 @@ use Rattle.outcome.specs.Bytes.{Bytes}
 use Rattle.outcome.specs.First.Found.{lt-or-le}
 use Rattle.codeword.specs.Code.{weight, Near}
 use Rattle.erasures.specs.Agrees.{Agrees}
-use Rattle.erasures.specs.Agreeing.{agreeing}
-use Rattle.erasures.specs.Agreeing.Exact.{agreeing_sound, agreeing_never}
+use Rattle.agreeing.specs.Agreeing.{agreeing}
+use Rattle.agreeing.specs.Agreeing.Exact.{agreeing_sound, agreeing_never}
 use Rattle.lines.specs.Stream.{back}
 use Rattle.circ.specs.Marks.{Marks}
 use Rattle.circ.specs.Marks.Either.{either_marks}
 use Rattle.circ.specs.Codes.{corrected, word_mark, doubted}
 use Rattle.circ.specs.Codes.Corrected.{judged}
-use Rattle.circ.specs.Codes.Treated.{positive, treats_unmarked, treats_agreeing, treats_none, treats_too_many}
+use Rattle.circ.proofs.Codes.Treated.{positive, treats_unmarked, treats_agreeing, treats_none, treats_too_many}
 use Rattle.circ.specs.Marked.{word_met_c2, marks_met_c2}
 use Rattle.circ_streams.specs.Inner.MarkedStreams.{length_word_c2, bytes_word_c2}
 use Rattle.circ_streams.specs.Inner.MarkedRows.{doubt-marked}

@@ -7,7 +7,7 @@ use Rattle.codeword.specs.Code.{weight}
 use Rattle.erasures.specs.Agrees.Unmarked.{weight-none}
 use Rattle.lines.specs.Stream.{back}
 use Rattle.lines.specs.Stream.Late.{back-same, back_none}
-use Rattle.lines.specs.Stream.Rows.{row-waits}
+use Rattle.lines.proofs.Stream.Rows.{row-waits}
 use Rattle.circ.specs.Rows.{reader_before_c1, reader_between}
 use Rattle.circ.specs.Chains.{met_c1}
 use Rattle.circ.specs.Codes.{doubted}

@@ -6,10 +6,10 @@ use Rattle.std.proofs.Math.Path.{ap₂}
 use Rattle.std.proofs.Math.ListN.{get_or, length-append}
 use Rattle.lines.specs.Stream.{back}
 use Rattle.lines.specs.Stream.Late.{back-same}
-use Rattle.lines.specs.Stream.Rows.{row-waits}
+use Rattle.lines.proofs.Stream.Rows.{row-waits}
 use Rattle.circ.specs.Rows.{either, doubt, reader_after_c2}
 use Rattle.circ.specs.Codes.{treated, doubted}
-use Rattle.circ.specs.Codes.Treated.{length-treated}
+use Rattle.circ.proofs.Codes.Treated.{length-treated}
 use Rattle.circ.specs.Marked.{rows_c2, word_met_c2, marks_met_c2, marked_at, marked_rows, marked_doubt}
 use Rattle.circ_streams.specs.Inner.MarkedStreams.{length_word_c2, rows-marked}
 

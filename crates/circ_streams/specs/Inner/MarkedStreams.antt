@@ -8,14 +8,14 @@ use Rattle.std.proofs.lemmas.List.{length-replicate}
 use Rattle.outcome.specs.Bytes.{Bytes}
 use Rattle.outcome.specs.Bytes.Kept.{bytes_take}
 use Rattle.lines.specs.Stream.{out_at}
-use Rattle.lines.specs.Stream.Rows.{out_same, length_out, bytes_out_lem}
-use Rattle.lines.specs.Stream.Beside.{beside}
-use Rattle.lines.specs.Chain.Streams.{chained, chain_law}
+use Rattle.lines.proofs.Stream.Rows.{out_same, length_out, bytes_out_lem}
+use Rattle.lines.proofs.Stream.Beside.{beside}
+use Rattle.lines.proofs.Chain.Streams.{chained, chain_law}
 use Rattle.circ.specs.Rows.{reader_before_c1, reader_between, reader_after_c2, inverted}
 use Rattle.circ.specs.Chains.{met_c1}
 use Rattle.circ.specs.Marks.{lost_marks}
 use Rattle.circ.specs.Codes.{treated, doubted}
-use Rattle.circ.specs.Codes.Treated.{length-treated, bytes_treated}
+use Rattle.circ.proofs.Codes.Treated.{length-treated, bytes_treated}
 use Rattle.circ.specs.Marked.{bytes_c1, marks_c1, rows_c2, twice, entering, pass_c1, pass_c2, marked_rows, marked_at, marks_met_c1, word_met_c2, marks_met_c2}
 use Rattle.circ_streams.specs.Inner.Tables.{length-inverted}
 use Rattle.circ_streams.specs.Inner.ReaderRows.{length_met_c1, bytes_met_c1}

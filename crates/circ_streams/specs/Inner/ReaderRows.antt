@@ -5,8 +5,8 @@ use Rattle.std.proofs.Common.{◌∙◌, arith}
 use Rattle.std.proofs.Math.Seq.{length-take-le}
 use Rattle.outcome.specs.Bytes.{Bytes}
 use Rattle.lines.specs.Stream.{out_at}
-use Rattle.lines.specs.Stream.Rows.{length_out, bytes_out_lem}
-use Rattle.lines.specs.Chain.Streams.{chained, chain_law}
+use Rattle.lines.proofs.Stream.Rows.{length_out, bytes_out_lem}
+use Rattle.lines.proofs.Chain.Streams.{chained, chain_law}
 use Rattle.circ.specs.Rows.{reader_before_c1, reader_between, reader_after_c2, inverted}
 use Rattle.circ.specs.Chains.{through_c1, through_c2, reader_rows, reader_at, met_c1, met_c2}
 use Rattle.circ_streams.specs.Inner.Tables.{length-inverted, bytes_inverted}

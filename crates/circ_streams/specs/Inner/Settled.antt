@@ -11,11 +11,11 @@ use Rattle.codeword.specs.Nearest.Finds.{nearest_code}
 use Rattle.codeword.specs.Parity.One.{parity_one}
 use Rattle.erasures.specs.Agrees.Unmarked.{weight-none}
 use Rattle.lines.specs.Delay.{total, zeros}
-use Rattle.lines.specs.Chain.Zeros.{chain_zeros, chain_stays}
+use Rattle.lines.proofs.Chain.Zeros.{chain_zeros, chain_stays}
 use Rattle.circ.specs.Rows.{placed, collected, doubt, before_c2, between, after_c1, reader_before_c1, reader_between, reader_after_c2, mask, inverted}
 use Rattle.circ.specs.Chains.{with_q, with_p, writer_out, writer_next, fresh_writer}
 use Rattle.circ.specs.Codes.{q_of, p_of, mark_of, word_mark}
-use Rattle.circ.specs.Codes.Treated.{treats_unmarked}
+use Rattle.circ.proofs.Codes.Treated.{treats_unmarked}
 use Rattle.circ.specs.Marks.{lost_by, lost_marks}
 use Rattle.circ.specs.Marked.{twice, entering, pass_c1, pass_c2, marked_rows, marked_out, marked_doubt, marked_next, fresh_reader}
 use Rattle.circ.specs.Codes.Parities.{parity_right}

@@ -1,6 +1,6 @@
 -- The rows of a word with Q or P filled in.
 -- Assumes nothing.
-use Rattle.std.specs.Prelude.{◌≡◌, List, ◌++◌, ℕ, ◌+◌, ◌-◌, ◌≤◌, ◌<◌, take}
+use Rattle.std.specs.Prelude.{◌≡◌, List, ◌++◌, ℕ, ◌-◌, ◌≤◌, ◌<◌, take}
 use Rattle.std.proofs.Math.Path.{ap}
 use Rattle.std.proofs.Common.{◌∙◌, inl, inr, arith, length-take-le, get_or-append-add}
 use Rattle.std.proofs.Math.ListN.{length, drop, get_or, length-append, length-drop, get_or-append}

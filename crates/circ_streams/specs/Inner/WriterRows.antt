@@ -9,8 +9,8 @@ use Rattle.std.proofs.Math.ListN.{get_or, get_or-eq_default}
 use Rattle.xor.specs.Added.Places.{added-at}
 use Rattle.lines.specs.Stream.{back}
 use Rattle.lines.specs.Stream.Late.{back-same}
-use Rattle.lines.specs.Stream.Rows.{row-waits}
-use Rattle.lines.specs.Stream.Series.{three}
+use Rattle.lines.proofs.Stream.Rows.{row-waits}
+use Rattle.lines.proofs.Stream.Series.{three}
 use Rattle.circ.specs.Rows.{placed, rows_of_bytes, before_c2, between, after_c1, row_delay, mask, inverted}
 use Rattle.circ.specs.Chains.{written, c2_word, c1_word}
 use Rattle.circ_streams.specs.Inner.Coding.{Coding}

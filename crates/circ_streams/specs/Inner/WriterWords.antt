@@ -4,8 +4,8 @@ use Rattle.std.specs.Prelude.{◌≡◌, List, ℕ, ◌≤◌, ◌<◌, length, 
 use Rattle.std.proofs.Common.{ap, ◌∙◌, arith}
 use Rattle.outcome.specs.Bytes.{Bytes}
 use Rattle.lines.specs.Stream.{back, out_at}
-use Rattle.lines.specs.Stream.Rows.{row-waits, length_out, bytes_out_lem}
-use Rattle.lines.specs.Chain.Streams.{chained, chain_law}
+use Rattle.lines.proofs.Stream.Rows.{row-waits, length_out, bytes_out_lem}
+use Rattle.lines.proofs.Chain.Streams.{chained, chain_law}
 use Rattle.circ.specs.Rows.{placed, before_c2, between, after_c1, inverted}
 use Rattle.circ.specs.Chains.{with_q, with_p, writer_out, writer_at, written, c2_word, c1_word}
 use Rattle.circ_streams.specs.Inner.Coding.{Coding}

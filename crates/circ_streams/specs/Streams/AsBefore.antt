@@ -5,12 +5,12 @@ use Rattle.std.proofs.Common.{sym, ◌∙◌, inl, inr, arith}
 use Rattle.std.proofs.Math.Path.{ap, ap₂}
 use mathlib.Core.List.{List, [], ◌∷◌, ◌++◌}
 use Rattle.codeword.specs.Code.{weight, Near}
-use Rattle.lines.specs.Stream.Rows.{out_same}
+use Rattle.lines.proofs.Stream.Rows.{out_same}
 use Rattle.circ.specs.Rows.{collected, doubt, reader_between, reader_after_c2}
 use Rattle.circ.specs.Chains.{through_c1, through_c2, reader_rows, reader_at, met_c1, met_c2}
 use Rattle.circ.specs.Codes.{corrected, word_mark}
 use Rattle.circ.specs.Codes.Corrected.{judged}
-use Rattle.circ.specs.Codes.Treated.{treats_unmarked}
+use Rattle.circ.proofs.Codes.Treated.{treats_unmarked}
 use Rattle.circ.specs.Marked.{bytes_c1, rows_c2, marked_rows, marked_at, marks_met_c1, word_met_c2, marks_met_c2}
 use Rattle.circ_streams.specs.Streams.{F2Frames, MarksOf, NoneLost, f1_at, doubt_at, f1_before, doubt_before}
 use Rattle.circ_streams.specs.Inner.ReaderRows.{rows_read, length_met_c1, bytes_met_c1}

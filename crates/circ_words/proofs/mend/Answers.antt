@@ -2,7 +2,6 @@
 -- Assumes nothing.
 use Rattle.codeword.specs.declared.Verdict.TheVariants as verdicts
 use Rattle.circ_words.proofs.Mending.{by_verdict, inside}
-use borrow.Author.Rules.{rules}
 use Rattle.circ_words.proofs.mend.Goals as goal
 
 pub bounds-word-i : goal.bounds-word-i

@@ -3,9 +3,8 @@
 use mathlib.Core.Path.{sym, ◌∙◌}
 use mathlib.Core.Bool.{true, false}
 use native.Mathlib.Omega.{arith}
-use Rattle.circ.specs.Codes.Treated.{positive}
+use Rattle.circ.proofs.Codes.Treated.{positive}
 use Rattle.circ_words.proofs.Treating.{by_nearest, too_many, by_filling}
-use borrow.Author.Rules.{rules}
 use Rattle.circ_words.proofs.treat.Goals as goal
 
 pub returns-then-n-eq0 : goal.returns-then-n-eq0

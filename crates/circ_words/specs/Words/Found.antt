@@ -9,11 +9,11 @@ use borrow.Author.Tests.{eq-eqb, ne_eqb, le-leb, lt-leb, leb-true}
 use Rattle.std.proofs.Math.Dec.{leb}
 use Rattle.codeword.specs.Code.{weight}
 use Rattle.codeword.specs.Nearest.{nearest, found_or}
-use Rattle.erasures.specs.Agreeing.{agreeing}
+use Rattle.agreeing.specs.Agreeing.{agreeing}
 use Rattle.filling.specs.Fill.{filled}
 use Rattle.filling.specs.Fill.WaysOut.{filled_within}
 use Rattle.circ.specs.Codes.{mark_of, found_for, treated, doubted}
-use Rattle.circ.specs.Codes.Treated.{Treats}
+use Rattle.circ.proofs.Codes.Treated.{Treats}
 use Rattle.circ_words.specs.Words.{found, HandsOn}
 
 -- two outcomes that the promise allows are one

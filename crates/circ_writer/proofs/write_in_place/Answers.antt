@@ -9,7 +9,6 @@ use Rattle.circ.specs.Rows.{before_c2, between, after_c1}
 use Rattle.circ.specs.Steps.{fits_writer}
 use Rattle.circ.specs.Rings.{rings_at, writer_waits, writer_rings}
 use Rattle.circ.specs.Rings.ByTests.{wrong_incoming, wrong-outgoing, wrong-place, right}
-use borrow.Author.Rules.{rules}
 use Rattle.std.proofs.Common.{ap, not}
 use Rattle.circ_writer.proofs.write_in_place.Goals as goal
 

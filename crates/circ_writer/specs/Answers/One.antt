@@ -6,7 +6,7 @@ use Rattle.outcome.specs.Say.{Say, done, refused}
 use Rattle.calls.specs.Step.{Step, step}
 use Rattle.calls.specs.Step.Same.{same_step}
 use Rattle.circ.specs.Rings.{Rings, writer_rings}
-use Rattle.circ.specs.Rings.Known.{writer_known}
+use Rattle.circ.proofs.Rings.Known.{writer_known}
 use Rattle.circ_writer.specs.declared.WriterAnswer as writing
 use Rattle.circ_writer.specs.declared.WriterAnswer.TheVariants as written
 use Rattle.circ_writer.specs.Answers.{say_of}

@@ -17,7 +17,6 @@ use Rattle.codeword.specs.Code.{sum, sums}
 use Rattle.codeword.specs.Nearest.{is_codeword, place_before, new_byte, changed, bytes_after, verdict, mended, nearest}
 use Rattle.codeword.specs.Fault.{all_zero, fits, fault, cure}
 use Rattle.codeword.specs.Code.Sums.{sum-set}
-use Rattle.codeword.specs.declared.Fault.{Fault}
 use Rattle.codeword.specs.declared.Fault.TheVariants as faults
 use Rattle.codeword.specs.declared.Verdict.TheVariants as verdicts
 

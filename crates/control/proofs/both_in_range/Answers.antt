@@ -1,8 +1,6 @@
 -- `control::both_in_range` meets its contract: the first time decides, or the second.
 -- Assumes nothing.
 use mathlib.Core.Path.{sym, ◌∙◌}
-use borrow.Author.Rules.{rules}
-use borrow.Author.Tests.{not-true, not-false}
 use Rattle.control.proofs.both_in_range.Goals as goal
 
 pub returns-then-not-in_range : goal.returns-then-not-in_range

@@ -1,8 +1,6 @@
 -- `control::data_allowed` meets its contract: each way out of an arm has the tests that its case of `allowed_data` asks.
 -- Assumes nothing.
 use mathlib.Core.Path.{sym, ◌∙◌}
-use borrow.Author.Rules.{rules}
-use borrow.Author.Tests.{not-true, not-false}
 use Rattle.control.proofs.data_allowed.Goals as goal
 
 pub returns-then-not-is_track_number : goal.returns-then-not-is_track_number

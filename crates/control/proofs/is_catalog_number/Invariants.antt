@@ -1,11 +1,8 @@
 -- `control::is_catalog_number` meets its contract: what is left of the number decides for all of it (`Digits`).
 -- Assumes nothing.
-use mathlib.Core.Path.{◌≡◌, refl, sym, ◌∙◌}
+use mathlib.Core.Path.{◌≡◌}
 use Prim.Native.Nat.{◌-◌, ◌≤◌}
-use native.Mathlib.Omega.{arith}
-use borrow.Author.Rules.{rules}
 use Rattle.control.specs.Fields.{decimal_digits}
-use Rattle.control.proofs.Digits.{digit-right, digit-wrong, digits-over}
 use Rattle.control.proofs.is_catalog_number.Given as goal
 
 abbrev pub invariant-loop-i : goal.invariant-loop-i

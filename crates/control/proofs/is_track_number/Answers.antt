@@ -1,6 +1,5 @@
 -- `control::is_track_number` meets its contract: it goes by the same two tests.
 -- Assumes nothing.
-use borrow.Author.Rules.{rules}
 use borrow.Author.Tests.{eq-eqb, ne_eqb}
 use Rattle.control.specs.Fields.{track_number}
 use Rattle.control.proofs.is_track_number.Goals as goal

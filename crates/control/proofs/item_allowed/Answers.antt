@@ -1,8 +1,6 @@
 -- `control::item_allowed` meets its contract: each arm has the tests that its case of `allowed_item` asks.
 -- Assumes nothing.
 use mathlib.Core.Path.{sym, ◌∙◌}
-use borrow.Author.Rules.{rules}
-use borrow.Author.Tests.{not-true, not-false}
 use Rattle.control.proofs.item_allowed.Goals as goal
 
 pub returns-then-not-is_track_number : goal.returns-then-not-is_track_number

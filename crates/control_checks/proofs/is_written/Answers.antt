@@ -1,7 +1,6 @@
 -- `control_checks::is_written` meets its contract: each answer of the writer is a law of `Made`.
 -- Assumes nothing.
 use mathlib.Core.Path.{refl, ap}
-use borrow.Author.Rules.{rules}
 use Rattle.control_writer.specs.Writing.{say_of}
 use Rattle.control_checks.proofs.Made.{made_done, made_refused}
 use Rattle.control_checks.proofs.is_written.Goals as goal

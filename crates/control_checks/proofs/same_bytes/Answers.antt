@@ -1,11 +1,8 @@
 -- `control_checks::same_bytes` meets its contract: all places before i are alike (`Comparing`).
 -- Assumes nothing.
 use mathlib.Core.Path.{sym}
-use Prim.Native.Nat.{◌-◌}
-use borrow.Author.Rules.{rules}
-use lib.ListN.{length}
-use Rattle.control_checks.proofs.Comparing.{Alike, alike_none, alike_more, alike_all, unlike}
-use Rattle.lists.specs.Same.Equal.{unlike_lengths}
+use Rattle.control_checks.proofs.Comparing.{alike_none, alike_more, alike_all, unlike}
+use Rattle.lists.proofs.Same.Equal.{unlike_lengths}
 use Rattle.control_checks.proofs.same_bytes.Goals as goal
 
 pub returns-then-a-b : goal.returns-then-a-b

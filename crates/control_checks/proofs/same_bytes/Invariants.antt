@@ -1,11 +1,8 @@
 -- `control_checks::same_bytes` meets its contract: all places before i are alike (`Comparing`).
 -- Assumes nothing.
-use mathlib.Core.Path.{sym}
 use Prim.Native.Nat.{◌-◌}
-use borrow.Author.Rules.{rules}
 use lib.ListN.{length}
-use Rattle.control_checks.proofs.Comparing.{Alike, alike_none, alike_more, alike_all, unlike}
-use Rattle.lists.specs.Same.Equal.{unlike_lengths}
+use Rattle.control_checks.proofs.Comparing.{Alike}
 use Rattle.control_checks.proofs.same_bytes.Given as goal
 
 abbrev pub invariant-loop-i : goal.invariant-loop-i

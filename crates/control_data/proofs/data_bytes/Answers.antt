@@ -1,7 +1,6 @@
 -- `control_data::data_bytes` meets its contract: each arm is a case of `data_bytes`.
 -- Assumes nothing.
 use mathlib.Core.Path.{refl}
-use borrow.Author.Rules.{rules}
 use Rattle.control_data.proofs.data_bytes.Goals as goal
 
 pub returns-in-UserData : goal.returns-in-UserData

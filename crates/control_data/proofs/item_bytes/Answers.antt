@@ -1,7 +1,6 @@
 -- `control_data::item_bytes` meets its contract: each arm is a case of `item_fields`.
 -- Assumes nothing.
 use mathlib.Core.Path.{refl}
-use borrow.Author.Rules.{rules}
 use Rattle.control_data.proofs.item_bytes.Goals as goal
 
 pub returns-in-Track : goal.returns-in-Track

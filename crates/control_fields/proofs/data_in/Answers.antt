@@ -1,6 +1,5 @@
 -- `control_fields::data_in` meets its contract: it goes by the same tests on the q-Mode and TNO fields.
 -- Assumes nothing.
-use borrow.Author.Rules.{rules}
 use borrow.Author.Tests.{eq-eqb, ne_eqb}
 use Rattle.control_fields.proofs.data_in.Goals as goal
 

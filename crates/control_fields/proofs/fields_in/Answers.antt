@@ -1,6 +1,5 @@
 -- `control_fields::fields_in` meets its contract: each part is the definition's.
 -- Assumes nothing.
-use borrow.Author.Rules.{rules}
 use Rattle.control_fields.specs.Found.{fields_in}
 use Rattle.control_fields.proofs.fields_in.Goals as goal
 

@@ -1,6 +1,5 @@
 -- `control_fields::item_in` meets its contract: it goes by the same tests on the POINTER field.
 -- Assumes nothing.
-use borrow.Author.Rules.{rules}
 use borrow.Author.Tests.{eq-eqb, ne_eqb}
 use Rattle.control_fields.specs.Found.{item_in}
 use Rattle.control_fields.proofs.item_in.Goals as goal

@@ -1,6 +1,5 @@
 -- `control_reader::crc_right` meets its contract: the two bytes are those of the last sixteen bits exactly where the bits are the CRC (`Crcs`).
 -- Assumes nothing.
-use borrow.Author.Rules.{rules}
 use Rattle.control_reader.proofs.Crcs.{first_differs, second_decides}
 use Rattle.control_reader.proofs.crc_right.Goals as goal
 

@@ -1,6 +1,5 @@
 -- `control_reader::read_control` meets its contract: each way out is a law of `WaysOut`; 16 and 17 are searched for, so that an exchanged order lacks a premise.
 -- Assumes nothing.
-use borrow.Author.Rules.{rules}
 use Rattle.control_reader.specs.Reading.{wrong-length}
 use Rattle.control_reader.proofs.WaysOut.{on_fields, on_read, ways}
 use Rattle.std.proofs.Common.{ap, not}

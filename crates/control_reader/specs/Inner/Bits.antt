@@ -6,7 +6,7 @@ use Rattle.std.proofs.lemmas.List.{take-append-le, drop-append-le}
 use Rattle.outcome.specs.Table.{tabulated}
 use Rattle.bits.specs.Bits.{number, unpack, pack}
 use Rattle.bits.specs.Bits.Numbers.{number_append, number_shift, number_lt}
-use Rattle.bits.specs.Bits.Packed.{unpack-pack}
+use Rattle.bits.proofs.Bits.Packed.{unpack-pack}
 use Rattle.bits.specs.Binary.{Binary}
 use Rattle.bits.specs.Binary.Parts.{binary_take, binary_drop}
 use Rattle.control.specs.Channels.{framed}

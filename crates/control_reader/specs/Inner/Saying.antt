@@ -13,11 +13,11 @@ use Rattle.std.proofs.Math.ListN.{get_or}
 use Rattle.std.proofs.Math.Seq.{take_at, drop_at}
 use Rattle.outcome.specs.Say.{Say, done, refused, demand}
 use Rattle.bits.specs.Bits.{bits_of, number, pack}
-use Rattle.bits.specs.Bits.Numbers.{length-bits, number-bits}
-use Rattle.bits.specs.Bits.Packed.{pack-unpack}
+use Rattle.bits.specs.Bits.Numbers.{number-bits}
+use Rattle.bits.proofs.Bits.Packed.{pack-unpack}
 use Rattle.bits.specs.Binary.{Binary}
 use Rattle.lists.specs.Same.{same}
-use Rattle.lists.specs.Same.Equal.{equal_same, same_equal}
+use Rattle.lists.proofs.Same.Equal.{equal_same, same_equal}
 use Rattle.crc.specs.Crc.{crc}
 use Rattle.control.specs.declared.QData.{QData}
 use Rattle.control.specs.declared.QData.TheVariants.{UserData, LeadOut, LeadIn, CatalogNumber}

@@ -1,6 +1,5 @@
 -- `control_told::data_given` meets its contract: it goes by the same tests.
 -- Assumes nothing.
-use borrow.Author.Rules.{rules}
 use borrow.Author.Tests.{eq-eqb, ne_eqb}
 use Rattle.control_told.specs.Given.{data_given}
 use Rattle.control_told.proofs.data_given.Goals as goal

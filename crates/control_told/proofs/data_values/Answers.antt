@@ -1,7 +1,6 @@
 -- `control_told::data_values` meets its contract: each arm is a case of `data_values`.
 -- Assumes nothing.
 use mathlib.Core.Path.{refl}
-use borrow.Author.Rules.{rules}
 use Rattle.control_told.proofs.data_values.Goals as goal
 
 pub returns-in-UserData : goal.returns-in-UserData

@@ -1,6 +1,5 @@
 -- `control_told::fields_given` meets its contract: each part is the definition's.
 -- Assumes nothing.
-use borrow.Author.Rules.{rules}
 use lib.Dec.{eqb}
 use lib.ListN.{get_or}
 use Rattle.control_told.specs.Given.{fields_given}

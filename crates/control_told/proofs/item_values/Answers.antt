@@ -1,7 +1,6 @@
 -- `control_told::item_values` meets its contract: each arm is a case of `item_values`.
 -- Assumes nothing.
 use mathlib.Core.Path.{refl}
-use borrow.Author.Rules.{rules}
 use Rattle.control_told.proofs.item_values.Goals as goal
 
 pub returns-in-Track : goal.returns-in-Track

@@ -1,7 +1,6 @@
 -- `control_told::tell_read` meets its contract: each arm is a case of `say_of`, told.
 -- Assumes nothing.
 use mathlib.Core.Path.{refl}
-use borrow.Author.Rules.{rules}
 use Rattle.control_told.proofs.tell_read.Goals as goal
 
 pub returns-in-Read : goal.returns-in-Read

@@ -3,7 +3,6 @@
 use mathlib.Core.Path.{ap₂, ◌∙◌}
 use mathlib.Core.List.{◌∷◌}
 use Prim.Native.Nat.{ℕ}
-use borrow.Author.Rules.{rules}
 use Rattle.told.specs.Told.{placed}
 use Rattle.control.specs.Values.{data_values}
 use Rattle.control_told.proofs.values_of.Goals as goal

@@ -1,7 +1,6 @@
 -- `control_told::write` meets its contract: it keeps the promise of `write_control`, and `tell_written` tells the answer.
 -- Assumes nothing.
 use mathlib.Core.Path.{refl, ap, ◌∙◌}
-use borrow.Author.Rules.{rules}
 use Rattle.control.specs.declared.Control.{Control}
 use Rattle.control_writer.specs.Writing.{writing}
 use Rattle.control_told.proofs.write.Goals as goal

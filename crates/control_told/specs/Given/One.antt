@@ -4,7 +4,7 @@ use Rattle.std.specs.Prelude.{◌≡◌, refl, List, ℕ}
 use Rattle.std.proofs.Common.{sym, ap, ◌∙◌}
 use Rattle.outcome.specs.Say.{Outcome, outcome}
 use Rattle.told.specs.Told.{Told}
-use Rattle.told.specs.Told.One.{told_one}
+use Rattle.told.proofs.Told.One.{told_one}
 use Rattle.control.specs.declared.Control.{Control}
 use Rattle.control_writer.specs.Writing.{writing}
 use Rattle.control_reader.specs.Reading.{Reads}

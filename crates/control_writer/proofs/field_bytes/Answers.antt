@@ -1,7 +1,6 @@
 -- `control_writer::field_bytes` meets its contract: the first byte has the two fields, of four bits each.
 -- Assumes nothing.
 use native.Mathlib.Omega.{arith}
-use borrow.Author.Rules.{rules}
 use Rattle.control.specs.Inner.Small.{field_lt, mode_lt}
 use Rattle.control_writer.proofs.field_bytes.Goals as goal
 

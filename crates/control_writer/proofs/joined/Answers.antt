@@ -2,7 +2,6 @@
 -- Assumes nothing.
 use mathlib.Core.Path.{sym, ap₂}
 use mathlib.Core.List.{◌++◌}
-use borrow.Author.Rules.{rules}
 use Rattle.control_writer.specs.Inner.Coded.{one_by_one}
 use Rattle.control_writer.proofs.joined.Goals as goal
 

@@ -3,7 +3,6 @@
 use mathlib.Core.Path.{ap, ◌∙◌}
 use mathlib.Core.List.{List, ◌++◌}
 use Prim.Native.Nat.{ℕ}
-use borrow.Author.Rules.{rules}
 use Rattle.bits.specs.Bits.{unpack}
 use Rattle.control_writer.specs.Inner.Coded.{coded, coded_bytes}
 use Rattle.control_writer.proofs.q_bytes.Goals as goal

@@ -1,11 +1,11 @@
 -- The bits of bytes with the CRC behind them.
 -- Assumes nothing.
-use Rattle.std.specs.Prelude.{◌≡◌, List, ◌++◌, ℕ, ◌+◌, length, get_or}
+use Rattle.std.specs.Prelude.{◌≡◌, List, ◌++◌, ℕ, length, get_or}
 use Rattle.std.proofs.Common.{sym, ap, ◌∙◌, arith, ext_get_or}
 use Rattle.outcome.specs.Table.{tabulated}
 use Rattle.outcome.specs.Table.Entries.{length-tabulated, tabulated-at}
 use Rattle.bits.specs.Bits.{unpack, pack}
-use Rattle.bits.specs.Bits.Packed.{unpack-append, unpack-pack}
+use Rattle.bits.proofs.Bits.Packed.{unpack-append, unpack-pack}
 use Rattle.crc.specs.Crc.{crc}
 use Rattle.bits.specs.Binary.Parts.{binary_unpack}
 use Rattle.crc.specs.Crc.Bits.{length-crc, binary_crc}

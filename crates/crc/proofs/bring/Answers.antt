@@ -1,7 +1,6 @@
 -- `crc::bring` meets its contract: the sum is that of `step`.
 -- Assumes nothing.
 use mathlib.Core.Path.{refl}
-use borrow.Author.Rules.{rules}
 use Rattle.crc.specs.Inner.Register.{step}
 use Rattle.crc.proofs.bring.Goals as goal
 

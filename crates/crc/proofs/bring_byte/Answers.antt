@@ -3,7 +3,6 @@
 use mathlib.Core.Path.{◌≡◌}
 use Prim.Native.Nat.{◌/◌, ◌%◌}
 use native.Mathlib.Omega.{arith}
-use borrow.Author.Rules.{rules}
 use Rattle.crc.specs.Inner.Register.{steps}
 use Rattle.crc.proofs.bring_byte.Goals as goal
 

@@ -1,11 +1,9 @@
 -- `crc::divide` meets its contract: after i bytes the register is that of their bits (`byte_more`).
 -- Assumes nothing.
-use mathlib.Core.Path.{◌≡◌, refl, ap, ◌∙◌}
+use mathlib.Core.Path.{refl, ap, ◌∙◌}
 use mathlib.Core.List.{List}
-use Prim.Native.Nat.{ℕ, ◌-◌, ◌≤◌}
+use Prim.Native.Nat.{ℕ}
 use native.Mathlib.Omega.{arith}
-use borrow.Author.Rules.{rules}
-use lib.ListN.{length, take}
 use lib.Seq.{take_all}
 use Rattle.bits.specs.Bits.{unpack}
 use Rattle.crc.specs.Inner.Register.{steps, byte_more}

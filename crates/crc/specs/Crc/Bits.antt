@@ -10,7 +10,7 @@ use Rattle.std.proofs.Math.ListN.{replicate}
 use Rattle.outcome.specs.Bytes.Kept.{bytes_nil, bytes_cons}
 use Rattle.bits.specs.Bits.{bits_of, number, unpack, pack}
 use Rattle.bits.specs.Bits.Numbers.{bits_split, bits_low, bits-number, number_lt}
-use Rattle.bits.specs.Bits.Packed.{packed}
+use Rattle.bits.proofs.Bits.Packed.{packed}
 use Rattle.bits.specs.Binary.{Binary}
 use Rattle.bits.specs.Binary.Parts.{binary_append}
 use Rattle.division.specs.Polynomial.Lengths.{coefs_zeros}

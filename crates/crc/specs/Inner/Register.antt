@@ -3,13 +3,13 @@
 use Rattle.std.specs.Prelude.{◌≡◌, List, [], ◌∷◌, ◌++◌, replicate, take, drop, get_or}
 use Rattle.std.proofs.Math.Path.{refl, ap, ap₂}
 use Rattle.std.proofs.Common.{sym, ◌∙◌, add-one, take-suc}
-use Prim.Native.Nat.{ℕ, zero, suc, ◌+◌, ◌-◌, ◌*◌, ◌/◌, ◌%◌, ◌^◌, ◌<◌}
+use Prim.Native.Nat.{ℕ, zero, suc, ◌+◌, ◌*◌, ◌/◌, ◌%◌, ◌^◌, ◌<◌}
 use Rattle.std.proofs.Math.Nat.{suc_inj}
 use native.Mathlib.Omega.{arith}
 use Rattle.std.specs.Int.Bits.{bit_xor}
 use Rattle.std.proofs.Math.ListN.{length, length-append}
 use Rattle.bits.specs.Bits.{bits_of, number, unpack}
-use Rattle.bits.specs.Bits.Packed.{unpack-append}
+use Rattle.bits.proofs.Bits.Packed.{unpack-append}
 use Rattle.bits.specs.Bits.Numbers.{number_append, number_shift, number_lt}
 use Rattle.bits.specs.Binary.{Binary}
 use Rattle.bits.specs.Binary.Parts.{binary_append}

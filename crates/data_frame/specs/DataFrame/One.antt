@@ -1,6 +1,6 @@
 -- Fields and Main Data determine their Data Frame: the two bytes of the IED and the four of the EDC are the only ones.
 -- Assumes nothing.
-use Rattle.std.specs.Prelude.{◌≡◌, List, ◌++◌, ℕ, ◌+◌, ◌-◌, take, drop}
+use Rattle.std.specs.Prelude.{◌≡◌, List, ◌++◌, ℕ, take, drop}
 use Rattle.std.proofs.Common.{sym, ap, ap₂, subst, ◌∙◌, arith, length-drop, take-append-drop, take-add, drop-drop, length-take-le}
 use Rattle.outcome.specs.Bytes.Kept.{bytes_take, bytes_drop}
 use Rattle.codeword.specs.Code.{Codeword}

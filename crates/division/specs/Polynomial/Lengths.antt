@@ -1,6 +1,6 @@
 -- How long sums and products of polynomials are, and that their coefficients are 0 or 1.
 -- Assumes nothing.
-use Rattle.std.specs.Prelude.{◌≡◌, refl, Bool, true, false, cond, List, [], ◌∷◌, ◌++◌, ℕ, zero, suc, ◌+◌, ◌-◌, ◌*◌, ◌<◌, eqb, length, replicate}
+use Rattle.std.specs.Prelude.{◌≡◌, refl, Bool, true, false, cond, List, [], ◌∷◌, ◌++◌, ℕ, zero, suc, ◌-◌, ◌*◌, ◌<◌, eqb, length, replicate}
 use Rattle.std.proofs.Common.{ap, zero-lt-suc, suc-ne-zero, arith}
 use Rattle.std.proofs.Math.Nat.{suc_inj}
 use Rattle.division.specs.Polynomial.{Coefficients, plus, scaled, product, named, powers}

@@ -1,6 +1,6 @@
 -- Lists of bits as numbers, the first bit the lowest: to add modulo 2 is `bit_xor`, and a list is known by its length and its number.
 -- Assumes nothing.
-use Rattle.std.specs.Prelude.{◌≡◌, refl, List, [], ◌∷◌, ◌++◌, ℕ, zero, suc, ◌+◌, ◌-◌, ◌*◌, ◌/◌, ◌%◌, ◌^◌, ◌<◌, ◌≤◌, length, take, drop, replicate}
+use Rattle.std.specs.Prelude.{◌≡◌, refl, List, [], ◌∷◌, ◌++◌, ℕ, zero, suc, ◌+◌, ◌*◌, ◌/◌, ◌%◌, ◌^◌, ◌<◌, ◌≤◌, length, take, drop, replicate}
 use Rattle.std.proofs.Common.{sym, ap, ap₂, ◌∙◌, zero-lt-suc, suc-ne-zero, pow-suc, mul-zero, mul-add, mul_assoc, arith, length-drop, take-append-drop, length-take-le}
 use Rattle.std.proofs.Math.Nat.{suc_inj}
 use Rattle.std.specs.Int.Bits.{bit_xor, differ, xor_step}

@@ -3,7 +3,7 @@
 use Rattle.std.specs.Prelude.{◌≡◌, List, [], ◌∷◌, ◌++◌, length, drop}
 use Rattle.std.proofs.Math.Path.{refl, ap, ap₂, subst}
 use Rattle.std.proofs.Common.{sym, ◌∙◌}
-use Prim.Native.Nat.{ℕ, ◌+◌, ◌-◌, ◌*◌, ◌/◌, ◌%◌, ◌^◌, ◌<◌}
+use Prim.Native.Nat.{ℕ, ◌+◌, ◌*◌, ◌/◌, ◌%◌, ◌^◌, ◌<◌}
 use native.Mathlib.Omega.{arith}
 use Rattle.std.specs.Int.Bits.{bit_xor, xor_block, xor_zero_r}
 use Rattle.std.proofs.Math.ListN.{length-append}
@@ -12,7 +12,6 @@ use Rattle.bits.specs.Binary.Parts.{binary_append, binary_drop}
 use Rattle.division.specs.Polynomial.{Coefficients, plus, scaled}
 use Rattle.division.specs.Polynomial.Lengths.{coefs_scaled, length-scaled}
 use Rattle.division.specs.Division.{brought, divided}
-use Rattle.division.specs.Division as whole
 use Rattle.division.specs.Division.Lengths as by
 use Rattle.edc.specs.Polynomial.{divisor}
 use Rattle.edc.specs.Polynomial.Lengths.{coefs_divisor, coefs_remainder, length-divisor, length-remainder}

@@ -1,6 +1,6 @@
 -- The divisor of clause 14.3 is the product that the clause prints.
 -- Assumes nothing.
-use Rattle.std.specs.Prelude.{◌≡◌, refl, ◌-◌}
+use Rattle.std.specs.Prelude.{◌≡◌, refl}
 use Rattle.division.specs.Polynomial.{product}
 use Rattle.edc.specs.Polynomial.{divisor, factor₁, factor₂}
 

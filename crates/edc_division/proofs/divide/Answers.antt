@@ -1,11 +1,8 @@
 -- `edc_division::divide` meets its contract. In both loops the register holds the remainder of the bytes passed (`Passed`), and four bytes
 -- more, or one, are so many steps of it.
 -- Assumes nothing.
-use Prim.Native.Nat.{◌-◌}
 use native.Mathlib.Omega.{arith}
-use borrow.Author.Rules.{rules}
-use lib.ListN.{length}
-use Rattle.edc_division.proofs.Passed.{Passed, passed_none, passed_word, passed_byte, passed_all}
+use Rattle.edc_division.proofs.Passed.{passed_none, passed_word, passed_byte, passed_all}
 use Rattle.edc_division.proofs.divide.Goals as goal
 
 pub loop-i-init : goal.loop-i-init

@@ -2,10 +2,8 @@
 -- more, or one, are so many steps of it.
 -- Assumes nothing.
 use Prim.Native.Nat.{◌-◌}
-use native.Mathlib.Omega.{arith}
-use borrow.Author.Rules.{rules}
 use lib.ListN.{length}
-use Rattle.edc_division.proofs.Passed.{Passed, passed_none, passed_word, passed_byte, passed_all}
+use Rattle.edc_division.proofs.Passed.{Passed}
 use Rattle.edc_division.proofs.divide.Given as goal
 
 abbrev pub invariant-loop-i : goal.invariant-loop-i

@@ -4,7 +4,6 @@ use mathlib.Core.Path.{◌∙◌, sym, ap}
 use Prim.Native.Nat.{ℕ}
 use lib.Dec.{eqb}
 use Rattle.edc.specs.Edc.Zero.{zero_number}
-use borrow.Author.Rules.{rules}
 use Rattle.edc_division.proofs.holds.Goals as goal
 
 pub returns : goal.returns

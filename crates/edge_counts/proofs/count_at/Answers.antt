@@ -1,6 +1,5 @@
 -- `edge_counts::count_at` meets its contract: each way out is a law of `Found`.
 -- Assumes nothing.
-use Rattle.std.proofs.Common.{rules}
 use Rattle.edge_counts.specs.Found.{no_count, a_count}
 use Rattle.edge_counts.proofs.count_at.Goals as goal
 

@@ -1,6 +1,5 @@
 -- `edges::run_at` meets its contract: each way out is a law of `Found`.
 -- Assumes nothing.
-use borrow.Author.Rules.{rules}
 use Rattle.edges.specs.Steps.Found.{no_edge, no_run, a_run}
 use Rattle.edges.proofs.run_at.Goals as goal
 

@@ -8,7 +8,7 @@ use native.Mathlib.Omega.{arith}
 use Rattle.std.proofs.Math.ListN.{length, get_or}
 use Rattle.captures.specs.Counts.{counts_of, distance, runs_of}
 use Rattle.captures.specs.Counts.Bytes.{length_counts}
-use Rattle.captures.specs.Counts.Places.{length_runs, run_at}
+use Rattle.captures.proofs.Counts.Places.{length_runs, run_at}
 use Rattle.edges.specs.declared.Step.TheVariants.{Run, End}
 use Rattle.edges.specs.Steps.{step_at}
 

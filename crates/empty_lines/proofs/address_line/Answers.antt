@@ -3,7 +3,6 @@
 use mathlib.Core.Path.{◌∙◌}
 use mathlib.Core.List.{[], ◌∷◌}
 use native.Mathlib.Omega.{arith}
-use borrow.Author.Rules.{rules}
 use Rattle.numerals.specs.Numerals.{hex}
 use Rattle.numerals.specs.Numerals.Half.{half_digit}
 use Rattle.empty_lines.proofs.address_line.Goals as goal

@@ -1,6 +1,5 @@
 -- `empty_lines::find` meets its contract: each way out is a law of `WaysOut`.
 -- Assumes nothing.
-use borrow.Author.Rules.{rules}
 use borrow.Enum.Refused.{opened}
 use Rattle.empty_lines.proofs.WaysOut.{on_refusal, on_empty, on_other}
 use Rattle.empty_lines.proofs.find.Goals as goal

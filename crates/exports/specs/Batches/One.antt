@@ -4,7 +4,7 @@ use Rattle.std.specs.Prelude.{◌≡◌, List, ℕ}
 use Rattle.std.proofs.Common.{sym, ap, ◌∙◌}
 use Rattle.batch.specs.Batch.One.{batch_one}
 use Rattle.told.specs.Told.{Told}
-use Rattle.told.specs.Told.One.{told_one}
+use Rattle.told.proofs.Told.One.{told_one}
 use Rattle.exports.specs.Batches.{numbers_of, changed_of, ManyTold}
 
 -- two outcomes that the promise allows are one: the answer with its count, the numbers and the counts of all sixteen fates, and the buffer

@@ -1,7 +1,6 @@
 -- `cut` meets its contract: on 2,352 bytes the definition is the exchange of all pairs (`f1-exchanged`).
 -- Assumes nothing.
 use mathlib.Core.Path.{sym, ◌∙◌}
-use borrow.Author.Rules.{rules}
 use Rattle.entry.specs.Entry.WaysOut.{alike}
 use Rattle.pair_exchange.specs.Exchange.{exchanged}
 use Rattle.f1_frames.specs.Frames.{cut}

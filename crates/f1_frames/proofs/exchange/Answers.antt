@@ -2,7 +2,6 @@
 -- Assumes nothing.
 use mathlib.Core.Path.{sym, ap, ◌∙◌}
 use Prim.Native.Nat.{ℕ, ◌%◌}
-use borrow.Author.Rules.{rules}
 use Rattle.entry.specs.Entry.WaysOut.{on_incoming, on_outgoing, on_done}
 use Rattle.pair_exchange.specs.Exchange.{exchanged}
 use Rattle.pair_exchange.specs.Exchange.Whole.{exchanged-whole}

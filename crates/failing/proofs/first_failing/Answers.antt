@@ -1,17 +1,16 @@
 -- `failing::first_failing` meets its contract: the inner loop has the sums of the bytes of codeword n that it passed (`Summing`), the
 -- outer one that no codeword before n fails.
 -- Assumes nothing.
-use Prim.Native.Nat.{ℕ, ◌≤◌, ◌<◌, ◌-◌}
+use Prim.Native.Nat.{ℕ, ◌<◌}
 use mathlib.Core.Path.{sym, ap, ◌∙◌}
 use native.Mathlib.Omega.{arith}
 use borrow.Author.Count.{below_more}
-use borrow.Author.Rules.{rules}
 use lib.ListN.{get_or}
 use Rattle.outcome.specs.Bytes.{Bytes}
 use Rattle.rspc.specs.Either.{words_of, rows_of, word_of}
-use Rattle.rspc.specs.Either.Bytewise.{words-le, rows-le, word_long, word_bytes, word_at}
+use Rattle.rspc.proofs.Either.Bytewise.{words-le, rows-le, word_long, word_bytes, word_at}
 use Rattle.failing.specs.Failing.{failing}
-use Rattle.failing.proofs.Search.{Summing, summing_none, summing_more, passes, fails_first, fails_second, NoneBelow, ends_at, ends_past}
+use Rattle.failing.proofs.Search.{summing_none, summing_more, passes, fails_first, fails_second, ends_at, ends_past}
 use Rattle.failing.proofs.first_failing.Goals as goal
 
 pub loop-n-init : goal.loop-n-init

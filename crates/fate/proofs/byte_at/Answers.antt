@@ -1,7 +1,6 @@
 -- `fate::byte_at` meets its contract: behind the end of a list stands what it is asked for in place of an element.
 -- Assumes nothing.
 use mathlib.Core.Path.{sym}
-use borrow.Author.Rules.{rules}
 use lib.ListN.{get_or-eq_default}
 use Rattle.fate.proofs.byte_at.Goals as goal
 

@@ -1,6 +1,5 @@
 -- `fate::fate_of` meets its contract: a refusal has its number, and what is handed out is one of `WaysOut`.
 -- Assumes nothing.
-use borrow.Author.Rules.{rules}
 use Rattle.fate.proofs.WaysOut.{on_clean, on_repaired}
 use Rattle.fate.proofs.fate_of.Goals as goal
 

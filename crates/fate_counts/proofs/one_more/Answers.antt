@@ -1,6 +1,5 @@
 -- `fate_counts::one_more` meets its contract: the definition goes by the same test.
 -- Assumes nothing.
-use borrow.Author.Rules.{rules}
 use borrow.Author.Tests.{lt-ltb, le-ltb}
 use Rattle.fate_counts.specs.Counting.{one_more_of}
 use Rattle.fate_counts.proofs.one_more.Goals as goal

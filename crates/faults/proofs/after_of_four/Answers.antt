@@ -2,13 +2,10 @@
 -- `weighted_more` takes them on by one. A place is passed by one of three ways, each with a sum that it doesn't fit.
 -- Assumes nothing.
 use borrow.Author.Rules.{rules}
-use mathlib.Core.Path.{◌≡◌}
 use mathlib.Core.List.{[], ◌∷◌}
-use Prim.Native.Nat.{◌*◌, ◌-◌}
 use native.Mathlib.Omega.{arith}
-use Rattle.field.specs.Field.{times_alpha, power, mul}
-use Rattle.codeword.specs.Fault.{fits}
-use Rattle.faults.proofs.Search.{Passed, passed_none, passed_more, found_here, found_none, weighted_none, weighted_more, fits-four, fits_not}
+use Rattle.field.specs.Field.{times_alpha, power}
+use Rattle.faults.proofs.Search.{passed_none, passed_more, found_here, found_none, weighted_none, weighted_more, fits-four, fits_not}
 use Rattle.faults.proofs.after_of_four.Goals as goal
 use Rattle.faults.proofs.after_of_four.Goals.{then-t1-s1+then-t2-s2+else-t3-s3, then-t1-s1+else-t2-s2, else-t1-s1}
 
@@ -28,7 +25,7 @@ loop-m-preserved c =
     let a = c.args in (
       passed_more l.invariant.0 c.loop-m-test.true
           (elim c.if-t1-s1.branch [
-            then-t1-s1+then-t2-s2+else-t3-s3 w ↦ fits_not (a.s0 ∷ a.s1 ∷ a.s2 ∷ a.s3 ∷ []) l.m 3 (omega arith) l.invariant.3 w.if-t3-s3.false
+            | then-t1-s1+then-t2-s2+else-t3-s3 w ↦ fits_not (a.s0 ∷ a.s1 ∷ a.s2 ∷ a.s3 ∷ []) l.m 3 (omega arith) l.invariant.3 w.if-t3-s3.false
             | then-t1-s1+else-t2-s2 w ↦ fits_not (a.s0 ∷ a.s1 ∷ a.s2 ∷ a.s3 ∷ []) l.m 2 (omega arith) l.invariant.2 w.if-t2-s2.false
             | else-t1-s1 w ↦ fits_not (a.s0 ∷ a.s1 ∷ a.s2 ∷ a.s3 ∷ []) l.m 1 (omega arith) l.invariant.1 w.if-t1-s1.false
           ]),

@@ -1,15 +1,12 @@
 -- `faults::after_of_four` meets its contract. No place below m fits, and t1, t2, t3 are s0 α^m, s0 α^2m and s0 α^3m;
 -- `weighted_more` takes them on by one. A place is passed by one of three ways, each with a sum that it doesn't fit.
 -- Assumes nothing.
-use borrow.Author.Rules.{rules}
 use mathlib.Core.Path.{◌≡◌}
-use mathlib.Core.Logic.{⊎_elim}
 use mathlib.Core.List.{[], ◌∷◌}
 use Prim.Native.Nat.{◌*◌, ◌-◌}
-use native.Mathlib.Omega.{arith}
-use Rattle.field.specs.Field.{times_alpha, power, mul}
+use Rattle.field.specs.Field.{power, mul}
 use Rattle.codeword.specs.Fault.{fits}
-use Rattle.faults.proofs.Search.{Passed, passed_none, passed_more, found_here, found_none, weighted_none, weighted_more, fits-four, fits_not}
+use Rattle.faults.proofs.Search.{Passed}
 use Rattle.faults.proofs.after_of_four.Given as goal
 
 abbrev pub invariant-loop-m : goal.invariant-loop-m

@@ -1,13 +1,11 @@
 -- `faults::after_of_two` meets its contract. No place below m fits, and t1 is s0 α^m; `weighted_more` takes it on by one.
 -- Assumes nothing.
-use borrow.Author.Rules.{rules}
 use mathlib.Core.Path.{◌≡◌}
 use mathlib.Core.List.{[], ◌∷◌}
 use Prim.Native.Nat.{◌*◌, ◌-◌}
-use native.Mathlib.Omega.{arith}
-use Rattle.field.specs.Field.{times_alpha, power, mul}
+use Rattle.field.specs.Field.{power, mul}
 use Rattle.codeword.specs.Fault.{fits}
-use Rattle.faults.proofs.Search.{Passed, passed_none, passed_more, found_here, found_none, weighted_none, weighted_more, fits-two, fits_not}
+use Rattle.faults.proofs.Search.{Passed}
 use Rattle.faults.proofs.after_of_two.Given as goal
 
 abbrev pub invariant-loop-m : goal.invariant-loop-m

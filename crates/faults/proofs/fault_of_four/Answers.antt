@@ -27,7 +27,7 @@ pub returns : goal.returns
 returns c =
     fault-found _ _ c.if-k-gt-LONGEST.false (let unclean : all_zero c.args.s ≡ false = let l = (let long : length c.args.s ≡ 4 = search rules in long) in
     elim c.if-s0-eq0.branch [
-      then-s0-eq0+then-s1-eq0+then-s2-eq0+else-s3-eq0 w ↦ not-zero _ 3 (omega arith) w.if-s3-eq0.false
+      | then-s0-eq0+then-s1-eq0+then-s2-eq0+else-s3-eq0 w ↦ not-zero _ 3 (omega arith) w.if-s3-eq0.false
       | then-s0-eq0+then-s1-eq0+else-s2-eq0 w ↦ not-zero _ 2 (omega arith) w.if-s2-eq0.false
       | then-s0-eq0+else-s1-eq0 w ↦ not-zero _ 1 (omega arith) w.if-s1-eq0.false
       | else-s0-eq0 w ↦ not-zero _ 0 (omega arith) w.if-s0-eq0.false

@@ -7,7 +7,6 @@ use native.Mathlib.Omega.{arith}
 use lib.Pow.{pow_pos}
 use Rattle.fields.specs.Packed.Read.{read_three, read_short, read_long}
 use Rattle.fields.proofs.Unit.{unit_is}
-use borrow.Author.Rules.{rules}
 use Rattle.fields.proofs.field.Goals as goal
 
 pub returns-then-i-packed : goal.returns-then-i-packed

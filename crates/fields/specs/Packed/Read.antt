@@ -6,7 +6,7 @@ use Rattle.std.proofs.Common.{ap, ◌∙◌, arith}
 use borrow.Author.Tests.{lt-ltb, le-ltb, le-leb, lt-leb}
 use Rattle.outcome.specs.Bytes.{Bytes}
 use Rattle.bits.specs.Bits.{unpack}
-use Rattle.bits.specs.Bits.Fields.{three_bytes, from-three}
+use Rattle.bits.proofs.Bits.Fields.{three_bytes, from-three}
 use Rattle.fields.specs.Fields.{field_at}
 use Rattle.fields.specs.Packed.{field_read}
 

@@ -2,7 +2,6 @@
 -- Assumes nothing.
 use native.Mathlib.Omega.{arith}
 use Rattle.filling.specs.Fill.WaysOut.{refuses_lengths, refuses_long, refuses_many, fills_test}
-use borrow.Author.Rules.{rules}
 use Rattle.filling.proofs.fill.Goals as goal
 
 pub returns-then-marks-word : goal.returns-then-marks-word

@@ -1,7 +1,6 @@
 -- `filling::fill_word` meets its contract: the errors are added, and added again where that makes no codeword (`Filled`).
 -- Assumes nothing.
 use Rattle.filling.proofs.Filled.{filled_so, filled-not}
-use borrow.Author.Rules.{rules}
 use Rattle.filling.proofs.fill_word.Goals as goal
 
 pub returns-then-is_codeword : goal.returns-then-is_codeword

@@ -7,9 +7,9 @@ use borrow.Author.Tests.{eq-eqb, ne_eqb, le-leb, lt-leb}
 use Rattle.outcome.specs.Bytes.{Bytes}
 use Rattle.codeword.specs.Code.{weight}
 use Rattle.codeword.specs.Nearest.{is_codeword, found_or, is_found}
-use Rattle.erasures.specs.Agreeing.{agreeing}
+use Rattle.agreeing.specs.Agreeing.{agreeing}
 use Rattle.erasures.specs.Errors.{filling}
-use Rattle.erasures.specs.Errors.Filling.{agreeing_test}
+use Rattle.agreeing.specs.Filling.{agreeing_test}
 use Rattle.filling.specs.Fill.{within, filled, Fills}
 
 -- two outcomes that the promise allows are one

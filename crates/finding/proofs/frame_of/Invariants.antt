@@ -1,13 +1,10 @@
 -- `finding::frame_of` meets its contract: after f turns none of the first f frames has Sync at some n (`Search`).
 -- Assumes nothing.
 use Prim.Native.Nat.{ℕ, ◌-◌, ◌/◌}
-use native.Mathlib.Omega.{arith}
-use borrow.Author.Rules.{rules}
-use borrow.Author.Tests.{lt-ltb, ltb-true}
 use lib.Dec.{ltb}
 use lib.ListN.{length}
-use Rattle.alignment.specs.Found.{n_of, frame_of}
-use Rattle.finding.proofs.Search.{Passed, passed_none, passed_more, passed_found, passed_all}
+use Rattle.alignment.specs.Found.{n_of}
+use Rattle.finding.proofs.Search.{Passed}
 use Rattle.finding.proofs.frame_of.Given as goal
 
 abbrev pub invariant-loop-f : goal.invariant-loop-f

@@ -1,10 +1,8 @@
 -- `finding::n_of` meets its contract: after n turns Sync stands at none of the first n places of the frame (`Search`).
 -- Assumes nothing.
-use Prim.Native.Nat.{◌-◌}
 use mathlib.Core.Path.{sym, ◌∙◌}
-use borrow.Author.Rules.{rules}
-use Rattle.alignment.specs.Found.{sync_stands, n_of}
-use Rattle.finding.proofs.Search.{Passed, passed_none, passed_more, passed_found, passed_all, refuted}
+use Rattle.alignment.specs.Found.{n_of}
+use Rattle.finding.proofs.Search.{passed_none, passed_more, passed_found, passed_all, refuted}
 use Rattle.finding.proofs.n_of.Goals as goal
 
 pub loop-n-init : goal.loop-n-init

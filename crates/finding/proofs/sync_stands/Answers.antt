@@ -2,7 +2,6 @@
 -- Assumes nothing.
 use mathlib.Core.Path.{◌∙◌}
 use Rattle.finding.proofs.SyncInFrames.{stands}
-use borrow.Author.Rules.{rules}
 use Rattle.finding.proofs.sync_stands.Goals as goal
 
 pub returns : goal.returns

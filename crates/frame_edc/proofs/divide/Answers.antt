@@ -1,9 +1,7 @@
 -- `frame_edc::divide` meets its contract: the register holds the remainder of the bytes passed (`Passed`).
 -- Assumes nothing.
-use Prim.Native.Nat.{◌-◌}
 use native.Mathlib.Omega.{arith}
-use lib.ListN.{length}
-use Rattle.frame_edc.proofs.Passed.{Passed, passed_none, passed_byte, passed_all}
+use Rattle.frame_edc.proofs.Passed.{passed_none, passed_byte, passed_all}
 use Rattle.frame_edc.proofs.divide.Goals as goal
 
 pub loop-i-init : goal.loop-i-init

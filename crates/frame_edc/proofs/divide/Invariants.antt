@@ -1,9 +1,8 @@
 -- `frame_edc::divide` meets its contract: the register holds the remainder of the bytes passed (`Passed`).
 -- Assumes nothing.
 use Prim.Native.Nat.{◌-◌}
-use native.Mathlib.Omega.{arith}
 use lib.ListN.{length}
-use Rattle.frame_edc.proofs.Passed.{Passed, passed_none, passed_byte, passed_all}
+use Rattle.frame_edc.proofs.Passed.{Passed}
 use Rattle.frame_edc.proofs.divide.Given as goal
 
 abbrev pub invariant-loop-i : goal.invariant-loop-i

@@ -4,7 +4,6 @@ use mathlib.Core.Path.{◌∙◌, sym, ap}
 use Prim.Native.Nat.{ℕ}
 use lib.Dec.{eqb}
 use Rattle.division.specs.Polynomial.Zeros.{zero_number}
-use borrow.Author.Rules.{rules}
 use Rattle.frame_edc.specs.FrameEdc.{remainder}
 use Rattle.frame_edc.proofs.holds.Goals as goal
 

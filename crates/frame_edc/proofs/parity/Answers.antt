@@ -4,7 +4,6 @@ use mathlib.Core.Path.{◌∙◌}
 use native.Mathlib.Omega.{arith}
 use Rattle.frame_edc.proofs.Passed.{taken_more}
 use Rattle.frame_edc.proofs.Digits.{edc-digits}
-use borrow.Author.Rules.{rules}
 use Rattle.frame_edc.proofs.parity.Goals as goal
 
 pub returns : goal.returns

@@ -11,7 +11,6 @@ use Rattle.division.specs.Division.Register.{entry, register-down}
 use Rattle.frame_edc.specs.FrameEdc.{divisor}
 use Rattle.frame_edc.specs.FrameEdc.Right.{coefs_divisor, length-divisor}
 use Rattle.frame_edc.specs.Inner.Rows.{rows}
-use borrow.Author.Rules.{rules}
 use Rattle.frame_edc.proofs.take_byte.Goals as goal
 
 pub returns : goal.returns

@@ -4,7 +4,7 @@ use Rattle.std.specs.Prelude.{◌≡◌, refl, true, List, ◌++◌, ℕ, ◌≤
 use Rattle.std.proofs.Common.{sym, ap, ◌∙◌, arith}
 use Rattle.outcome.specs.Bytes.{Bytes}
 use Rattle.bits.specs.Bits.{unpack}
-use Rattle.bits.specs.Bits.Packed.{length-unpack, unpack-append, packed, unpack-pack, length-pack}
+use Rattle.bits.proofs.Bits.Packed.{length-unpack, unpack-append, packed, unpack-pack, length-pack}
 use Rattle.division.specs.Polynomial.{Coefficients, is_zero}
 use Rattle.bits.specs.Binary.Parts.{binary_unpack}
 use Rattle.division.specs.Polynomial.Bytes.{bytes_pack}

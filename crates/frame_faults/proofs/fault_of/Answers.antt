@@ -4,7 +4,6 @@ use mathlib.Core.Path.{◌∙◌}
 use Prim.Native.Nat.{ℕ}
 use lib.ListN.{length-replicate}
 use Rattle.frame_faults.proofs.Looking.{read_number}
-use borrow.Author.Rules.{rules}
 use Rattle.frame_faults.proofs.fault_of.Goals as goal
 
 pub returns : goal.returns

@@ -1,6 +1,6 @@
 -- What the faults of frames say: a faulty frame decides, and frames without a fault leave the rest to decide.
 -- Assumes nothing.
-use Rattle.std.specs.Prelude.{◌≡◌, refl, Bool, true, false, List, [], ℕ, zero, suc, ◌-◌, take, drop, get_or}
+use Rattle.std.specs.Prelude.{◌≡◌, refl, Bool, true, false, List, [], ℕ, zero, suc, take, drop, get_or}
 use Rattle.std.proofs.Common.{sym, ap, ◌∙◌, arith}
 use Rattle.outcome.specs.Say.{Say, done, demand}
 use Rattle.codeword.specs.Nearest.{is_codeword}

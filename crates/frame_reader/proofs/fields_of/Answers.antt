@@ -2,7 +2,6 @@
 -- Assumes nothing.
 use native.Mathlib.Nat.{div-one}
 use Rattle.data_frame.specs.DataFrame.{fields_of}
-use borrow.Author.Rules.{rules}
 use Rattle.frame_reader.proofs.fields_of.Goals as goal
 
 pub returns : goal.returns

@@ -11,7 +11,6 @@ use lib.ListN.{get_or}
 use lib.Seq.{length-take-le}
 use Rattle.codeword.specs.Code.{sum, sums}
 use Rattle.codeword.specs.Nearest.{is_codeword}
-use borrow.Author.Rules.{rules}
 use Rattle.frame_reader.proofs.is_identified.Goals as goal
 
 -- the two sums that are made, and the codeword that they tell

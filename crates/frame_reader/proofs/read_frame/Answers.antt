@@ -1,7 +1,6 @@
 -- `frame_reader::read_frame` meets its contract: each way out is a law of `WaysOut`.
 -- Assumes nothing.
 use Rattle.frame_reader.proofs.WaysOut.{ways, on_done}
-use borrow.Author.Rules.{rules}
 use Rattle.std.proofs.Common.{ap, not}
 use Rattle.frame_reader.proofs.read_frame.Goals as goal
 

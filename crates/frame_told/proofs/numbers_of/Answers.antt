@@ -1,6 +1,5 @@
 -- `frame_told::numbers_of` meets its contract: the four truth values by `one`, the rest as they stand.
 -- Assumes nothing.
-use borrow.Author.Rules.{rules}
 use Rattle.frame_told.proofs.numbers_of.Goals as goal
 
 pub returns : goal.returns

@@ -1,7 +1,6 @@
 -- `frame_told::tell_read` meets its contract: each arm is a case of `say_of`, told.
 -- Assumes nothing.
 use mathlib.Core.Path.{refl}
-use borrow.Author.Rules.{rules}
 use Rattle.frame_told.proofs.tell_read.Goals as goal
 
 pub returns-in-Done : goal.returns-in-Done

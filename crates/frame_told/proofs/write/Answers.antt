@@ -2,7 +2,6 @@
 -- Assumes nothing.
 use mathlib.Core.Path.{refl, sym}
 use Rattle.frame_writer.specs.Framing.{say_of}
-use borrow.Author.Rules.{rules}
 use Rattle.frame_told.proofs.write.Goals as goal
 
 pub returns : goal.returns

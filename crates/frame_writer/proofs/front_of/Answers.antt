@@ -9,7 +9,6 @@ use Rattle.codeword.specs.Parity.{Parity}
 use Rattle.data_frame.specs.declared.Fields.{Fields}
 use Rattle.data_frame.specs.DataFrame.{information, copyright}
 use Rattle.frame_writer.specs.Inner.Made.{Front}
-use borrow.Author.Rules.{rules}
 use Rattle.frame_writer.proofs.front_of.Goals as goal
 
 -- the ID's first byte is Sector Information, and the parity of the ID with it is that of the fields

@@ -3,7 +3,6 @@
 use native.Mathlib.Omega.{arith}
 use Rattle.data_frame.specs.DataFrame.{information}
 use Rattle.frame_writer.proofs.Bits.{bit_most}
-use borrow.Author.Rules.{rules}
 use Rattle.frame_writer.proofs.information.Goals as goal
 
 pub overflow_mul-result : goal.overflow_mul-result

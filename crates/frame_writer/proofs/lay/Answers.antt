@@ -3,7 +3,6 @@
 use mathlib.Core.List.{List}
 use Prim.Native.Nat.{ℕ}
 use Rattle.frame_writer.proofs.Making.{both-laid, check_copied}
-use borrow.Author.Rules.{rules}
 use Rattle.frame_writer.proofs.lay.Goals as goal
 
 pub returns : goal.returns

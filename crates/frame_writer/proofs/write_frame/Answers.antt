@@ -2,7 +2,6 @@
 -- Assumes nothing.
 use Rattle.frame_writer.proofs.Making.{length_front}
 use Rattle.frame_writer.proofs.WaysOut.{ways, on_done}
-use borrow.Author.Rules.{rules}
 use Rattle.frame_writer.proofs.write_frame.Goals as goal
 
 pub returns-then-main-ne2048 : goal.returns-then-main-ne2048

@@ -1,7 +1,6 @@
 -- `gathering::gather` meets its contract: each way out is a law of `Gathering`.
 -- Assumes nothing.
 use Rattle.gathering.proofs.Gathering.{ways}
-use borrow.Author.Rules.{rules}
 use Rattle.gathering.proofs.gather.Goals as goal
 
 pub returns-then-s-ne2352 : goal.returns-then-s-ne2352

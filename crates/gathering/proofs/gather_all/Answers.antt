@@ -4,9 +4,7 @@ use mathlib.Core.Path.{sym, ◌∙◌}
 use Prim.Native.Nat.{◌-◌, ◌+◌, ◌*◌}
 use native.Mathlib.Omega.{arith}
 use lib.ListN.{drop, length-take, length-drop}
-use Rattle.outcome.specs.Buffer.{Filling}
 use Rattle.outcome.specs.Buffer.Filled.{filling-none, filling_long, filling_all}
-use Rattle.gathering.specs.Rows.{q_rows}
 use Rattle.gathering.specs.Rows.Columns.{length-rows}
 use Rattle.gathering.proofs.Gathering.{rows_more}
 use Rattle.gathering.proofs.gather_all.Goals as goal

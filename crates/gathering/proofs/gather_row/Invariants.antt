@@ -1,9 +1,7 @@
 -- `gathering::gather_row` meets its contract. The loop's invariant: the bytes of d codewords of each half are there (`Gathering`).
 -- Assumes nothing.
 use Prim.Native.Nat.{◌-◌}
-use native.Mathlib.Omega.{arith}
-use lib.ListN.{length-set}
-use Rattle.gathering.proofs.Gathering.{Gathering, gathering_none, gathering_more, gathering_long, gathering_all}
+use Rattle.gathering.proofs.Gathering.{Gathering}
 use Rattle.gathering.proofs.gather_row.Given as goal
 
 abbrev pub invariant-loop-d : goal.invariant-loop-d

@@ -1,11 +1,9 @@
 -- `generator::divide` meets its contract. In both loops the register has the sums of the bytes passed (`Divided`), and four bytes more, or one,
 -- keep it so.
 -- Assumes nothing.
-use Prim.Native.Nat.{◌-◌}
 use native.Mathlib.Omega.{arith}
 use borrow.Author.Rules.{rules}
-use lib.ListN.{length}
-use Rattle.generator.proofs.Divided.{Divided, divided-none, divided_word, divided_byte, divided_all}
+use Rattle.generator.proofs.Divided.{divided-none, divided_word, divided_byte, divided_all}
 use Rattle.generator.proofs.divide.Goals as goal
 
 pub loop-i-init : goal.loop-i-init

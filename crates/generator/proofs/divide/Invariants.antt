@@ -2,10 +2,8 @@
 -- keep it so.
 -- Assumes nothing.
 use Prim.Native.Nat.{◌-◌}
-use native.Mathlib.Omega.{arith}
-use borrow.Author.Rules.{rules}
 use lib.ListN.{length}
-use Rattle.generator.proofs.Divided.{Divided, divided-none, divided_word, divided_byte, divided_all}
+use Rattle.generator.proofs.Divided.{Divided}
 use Rattle.generator.proofs.divide.Given as goal
 
 abbrev pub invariant-loop-i : goal.invariant-loop-i

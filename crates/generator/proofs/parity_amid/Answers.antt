@@ -1,7 +1,6 @@
 -- `generator::parity_amid` meets its contract: what is left, moved down by twelve bytes, is what is to be added (`amid`).
 -- Assumes nothing.
 use Rattle.generator.proofs.Answers.{amid}
-use borrow.Author.Rules.{rules}
 use Rattle.generator.proofs.parity_amid.Goals as goal
 
 pub returns : goal.returns

@@ -1,7 +1,6 @@
 -- `generator::parity_at_end` meets its contract: what is left of the word with four zeros behind it is its parity (`behind`).
 -- Assumes nothing.
 use Rattle.generator.proofs.Answers.{behind}
-use borrow.Author.Rules.{rules}
 use Rattle.generator.proofs.parity_at_end.Goals as goal
 
 pub returns : goal.returns

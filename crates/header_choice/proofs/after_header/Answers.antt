@@ -6,7 +6,6 @@ use Rattle.header_choice.specs.HeaderChoice.{after_header}
 use Rattle.traces.specs.Traces.{light}
 use Rattle.traces.specs.Traces.Room.{light-room}
 use Rattle.header_choice.proofs.Candidates.{spent_header}
-use borrow.Author.Rules.{rules}
 use Rattle.header_choice.proofs.after_header.Goals as goal
 
 pub returns-then-is_light : goal.returns-then-is_light

@@ -6,7 +6,6 @@ use Rattle.header_choice.specs.Inner.{HeaderStands}
 use Rattle.traces.specs.Better.{better_of}
 use Rattle.header_choice.specs.HeaderChoice.{before_next_header}
 use Rattle.header_choice.proofs.Candidates.{with_one, with_zeros, header_chosen}
-use borrow.Author.Rules.{rules}
 use Rattle.header_choice.proofs.best.Goals as goal
 
 pub returns : goal.returns

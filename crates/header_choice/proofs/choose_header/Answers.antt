@@ -6,7 +6,6 @@ use Rattle.header_choice.specs.HeaderChoice.{tail_choice}
 use Rattle.traces.specs.Traces.{fits}
 use Rattle.traces.specs.Traces.Room.{fits_fit}
 use Rattle.header_choice.proofs.Candidates.{tail_chosen}
-use borrow.Author.Rules.{rules}
 use Rattle.header_choice.proofs.choose_header.Goals as goal
 
 pub best-c-requires : goal.best-c-requires

@@ -1,7 +1,6 @@
 -- `header_choice::merged` meets its contract, by its test.
 -- Assumes nothing.
 use borrow.Author.Tests.{eq-eqb, ne_eqb}
-use borrow.Author.Rules.{rules}
 use Rattle.header_choice.proofs.merged.Goals as goal
 
 pub returns-then-bits-eq0 : goal.returns-then-bits-eq0

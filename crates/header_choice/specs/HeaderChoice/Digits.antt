@@ -6,7 +6,7 @@ use Rattle.bits.specs.Binary.{Binary}
 use Rattle.bits.specs.Bits.{bits_of, number}
 use Rattle.bits.specs.Bits.Numbers.{number_lt, bits-number}
 use Rattle.merging.specs.Automaton.{passes, start22}
-use Rattle.merging.specs.Chosen.ThreeBits.{header_three, header_binary}
+use Rattle.merging.proofs.Chosen.ThreeBits.{header_three, header_binary}
 use Rattle.merging.specs.Rule.{sync_header_bits}
 use Rattle.traces.specs.declared.Trace.{Trace}
 use Rattle.traces.specs.Traces.{tally_dsv, fits}

@@ -1,6 +1,5 @@
 -- `header_search::begins_at` meets its contract: each way out is a law of `Searching`.
 -- Assumes nothing.
-use borrow.Author.Rules.{rules}
 use Rattle.header_search.proofs.Searching.{on_first, on_second, on_both}
 use Rattle.header_search.proofs.begins_at.Goals as goal
 

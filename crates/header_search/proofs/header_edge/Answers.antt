@@ -1,10 +1,7 @@
 -- `header_search::header_edge` meets its contract: the loop's invariant is that no Sync Header begins at the edges from `from` to before k (`Searched`).
 -- Assumes nothing.
-use Prim.Native.Nat.{◌-◌, ◌/◌}
 use native.Mathlib.Omega.{arith}
-use lib.ListN.{length}
-use Rattle.header_search.proofs.Searching.{Searched, searched_none, on_behind, on_begins, searched_more, on_end}
-use borrow.Author.Rules.{rules}
+use Rattle.header_search.proofs.Searching.{searched_none, on_behind, on_begins, searched_more, on_end}
 use Rattle.header_search.proofs.header_edge.Goals as goal
 
 pub returns-then-capture-from : goal.returns-then-capture-from

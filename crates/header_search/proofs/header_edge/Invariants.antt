@@ -1,10 +1,8 @@
 -- `header_search::header_edge` meets its contract: the loop's invariant is that no Sync Header begins at the edges from `from` to before k (`Searched`).
 -- Assumes nothing.
 use Prim.Native.Nat.{◌-◌, ◌/◌}
-use native.Mathlib.Omega.{arith}
 use lib.ListN.{length}
-use Rattle.header_search.proofs.Searching.{Searched, searched_none, on_behind, on_begins, searched_more, on_end}
-use borrow.Author.Rules.{rules}
+use Rattle.header_search.proofs.Searching.{Searched}
 use Rattle.header_search.proofs.header_edge.Given as goal
 
 abbrev pub invariant-loop-k : goal.invariant-loop-k

@@ -1,6 +1,5 @@
 -- `header_search::stands_at` meets its contract: each way out is a law of `Searching`.
 -- Assumes nothing.
-use borrow.Author.Rules.{rules}
 use Rattle.header_search.proofs.Searching.{stands-behind, stands_short, stands-begins}
 use Rattle.header_search.proofs.stands_at.Goals as goal
 

@@ -1,6 +1,5 @@
 -- `inverses::inverse` meets its contract. The loop's invariant: after i turns r is a to the power of i ones in binary (`Climb`).
 -- Assumes nothing.
-use Prim.Native.Nat.{◌-◌}
 use borrow.Author.Rules.{rules}
 use Rattle.inverses.proofs.Climb.{climbing_none, climbing_more, climbing_all}
 use Rattle.inverses.proofs.inverse.Goals as goal

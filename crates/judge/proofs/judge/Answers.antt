@@ -1,6 +1,5 @@
 -- `judge::judge` meets its contract: each way out is a law of `WaysOut`.
 -- Assumes nothing.
-use borrow.Author.Rules.{rules}
 use Rattle.judge.proofs.WaysOut.{ways}
 use Rattle.judge.proofs.judge.Goals as goal
 

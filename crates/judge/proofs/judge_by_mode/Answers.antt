@@ -1,6 +1,5 @@
 -- `judge::judge_by_mode` meets its contract: each mode is a law of `WaysOut`.
 -- Assumes nothing.
-use borrow.Author.Rules.{rules}
 use Rattle.judge.proofs.WaysOut.{in_mode00, in_mode01, in_mode02}
 use Rattle.judge.proofs.judge_by_mode.Goals as goal
 

@@ -1,8 +1,6 @@
 -- `judge::judge_mode00` meets its contract: each way out has the test that `judging_mode00` asks.
 -- Assumes nothing.
 use mathlib.Core.Path.{sym, ap, ◌∙◌}
-use borrow.Author.Rules.{rules}
-use borrow.Author.Tests.{not-true, not-false}
 use Rattle.judge.specs.Judging.{passing, judging_mode00}
 use Rattle.judge.proofs.judge_mode00.Goals as goal
 

@@ -1,6 +1,5 @@
 -- `judge::judge_mode01` meets its contract: each way out is a law of `WaysOut`.
 -- Assumes nothing.
-use borrow.Author.Rules.{rules}
 use Rattle.judge.proofs.WaysOut.{covered_long, ways01}
 use Rattle.judge.proofs.judge_mode01.Goals as goal
 

@@ -13,7 +13,7 @@ use Rattle.address.specs.Address.{in_range}
 use Rattle.sector.specs.Layout.{sync, bytes_from, time_of, mode_of, zeros}
 use Rattle.sector.specs.Correct.{Empty, Protected, Correct}
 use Rattle.lists.specs.Same.{same}
-use Rattle.lists.specs.Same.Equal.{same_equal, equal_same}
+use Rattle.lists.proofs.Same.Equal.{same_equal, equal_same}
 use Rattle.rspc.specs.declared.Parity.TheVariants.{P, Q}
 use Rattle.judge.specs.Judging.{passing, judging_mode01, judging_mode00, by_mode, judging}
 use Rattle.judge.specs.Judging.Demanded.{demanded, demanded_each, met_each, code_of, of_code}

@@ -5,7 +5,6 @@ use mathlib.Core.Path.{ap, ◌∙◌}
 use Prim.Native.Nat.{ℕ, ◌-◌, ◌/◌, ◌%◌, ◌^◌}
 use native.Mathlib.Omega.{arith}
 use Rattle.judged_bits.specs.Bytes.{bit-before, bit_in, bit-behind, bit_past}
-use borrow.Author.Rules.{rules}
 use Rattle.judged_bits.proofs.bit_at.Goals as goal
 
 pub returns-then-q-lt16 : goal.returns-then-q-lt16

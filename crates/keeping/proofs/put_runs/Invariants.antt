@@ -1,10 +1,8 @@
 -- `keeping::put_runs` meets its contract: the loop's invariant is that the first i counts are in the list (`Writing`).
 -- Assumes nothing.
-use Prim.Native.Nat.{ℕ, ◌-◌, ◌/◌}
-use mathlib.Core.Path.{sym, ap, ◌∙◌}
-use borrow.Author.Rules.{rules}
-use lib.ListN.{length, length-replicate}
-use Rattle.keeping.proofs.Writing.{Writing, writing-none, writing_long, writing_more, writing_all}
+use Prim.Native.Nat.{◌-◌, ◌/◌}
+use lib.ListN.{length}
+use Rattle.keeping.proofs.Writing.{Writing}
 use Rattle.keeping.proofs.put_runs.Given as goal
 
 abbrev pub invariant-loop-i : goal.invariant-loop-i

@@ -1,7 +1,6 @@
 -- `keeping::runs_of` meets its contract: each way out is a law of `Writing`, whose premises are what the tests said.
 -- Assumes nothing.
 use mathlib.Core.Path.{sym, ◌∙◌}
-use borrow.Author.Rules.{rules}
 use borrow.Author.Tests.{not-true, not-false}
 use Rattle.keeping.proofs.Writing.{on_incoming, on_room, is_ready, on_done}
 use Rattle.std.proofs.Common.{ap, not}

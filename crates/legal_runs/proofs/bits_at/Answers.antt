@@ -1,7 +1,6 @@
 -- `legal_runs::bits_at` meets its contract: each way out is a law of `Legality`.
 -- Assumes nothing.
 use Rattle.legal_runs.proofs.Legality.{end_bits, run-bits}
-use borrow.Author.Rules.{rules}
 use Rattle.legal_runs.proofs.bits_at.Goals as goal
 
 pub returns-in_default : goal.returns-in_default

@@ -1,10 +1,7 @@
 -- `legal_runs::first_illegal` meets its contract: the loop's invariant is that the first i runs are legal (`Passed`).
 -- Assumes nothing.
-use Prim.Native.Nat.{◌-◌, ◌/◌}
 use native.Mathlib.Omega.{arith}
-use lib.ListN.{length}
-use Rattle.legal_runs.proofs.Legality.{Passed, passed_none, passed_within, on_few, on_many, passed_more, passed_all}
-use borrow.Author.Rules.{rules}
+use Rattle.legal_runs.proofs.Legality.{passed_none, passed_within, on_few, on_many, passed_more, passed_all}
 use Rattle.legal_runs.proofs.first_illegal.Goals as goal
 
 pub loop-i-init : goal.loop-i-init

@@ -1,10 +1,8 @@
 -- `legal_runs::first_illegal` meets its contract: the loop's invariant is that the first i runs are legal (`Passed`).
 -- Assumes nothing.
 use Prim.Native.Nat.{◌-◌, ◌/◌}
-use native.Mathlib.Omega.{arith}
 use lib.ListN.{length}
-use Rattle.legal_runs.proofs.Legality.{Passed, passed_none, passed_within, on_few, on_many, passed_more, passed_all}
-use borrow.Author.Rules.{rules}
+use Rattle.legal_runs.proofs.Legality.{Passed}
 use Rattle.legal_runs.proofs.first_illegal.Given as goal
 
 abbrev pub invariant-loop-i : goal.invariant-loop-i

@@ -4,7 +4,7 @@ use Rattle.std.specs.Prelude.{◌≡◌, List, ℕ, ◌-◌, ◌/◌, ◌<◌, l
 use Rattle.std.proofs.Common.{arith, lt-ltb}
 use Rattle.captures.specs.Counts.{counts_of, bits_in}
 use Rattle.captures.specs.Counts.Bytes.{length_counts}
-use Rattle.captures.specs.Counts.Places.{length_runs}
+use Rattle.captures.proofs.Counts.Places.{length_runs}
 use Rattle.legal_runs.specs.EdgeBits.{runs, edge_bits}
 
 -- one run less than edges

@@ -1,7 +1,6 @@
 -- `listing::note` meets its contract: each way out is a law of `Noting`.
 -- Assumes nothing.
 use Rattle.listing.proofs.Noting.{on_same, on_other}
-use borrow.Author.Rules.{rules}
 use Rattle.listing.proofs.note.Goals as goal
 
 pub returns-then-old-new : goal.returns-then-old-new

@@ -1,9 +1,8 @@
 -- `lost_errors::add_errors` meets its contract: the errors of the first i places are added (`Adding`).
 -- Assumes nothing.
 use Prim.Native.Nat.{◌-◌}
-use borrow.Author.Rules.{rules}
 use lib.ListN.{length}
-use Rattle.lost_errors.proofs.Adding.{Adding, adding_none, adding_long, adding_inside, adding_more, adding_all, adding_other}
+use Rattle.lost_errors.proofs.Adding.{Adding}
 use Rattle.lost_errors.proofs.add_errors.Given as goal
 
 abbrev pub invariant-loop-i : goal.invariant-loop-i

@@ -3,10 +3,9 @@
 -- Assumes nothing.
 use mathlib.Core.Path.{sym, ◌∙◌}
 use native.Mathlib.Omega.{arith}
-use borrow.Author.Rules.{rules}
 use lib.ListN.{length, length-set}
 use Rattle.erasures.specs.Errors.{others}
-use Rattle.lost_errors.proofs.Sweep.{Turned, turned_none, turned-kept, turned_lost, turned_error}
+use Rattle.lost_errors.proofs.Sweep.{turned_none, turned-kept, turned_lost, turned_error}
 use Rattle.lost_errors.proofs.error_at.Goals as goal
 
 pub overflow_sub-marks : goal.overflow_sub-marks

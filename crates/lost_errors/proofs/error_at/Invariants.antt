@@ -1,12 +1,8 @@
 -- `lost_errors::error_at` meets its contract: from i on, t are the sums twisted by each lost byte but that at p, and f is its factor;
 -- the laws of `Turned` take them one place on.
 -- Assumes nothing.
-use mathlib.Core.Path.{sym, ◌∙◌}
-use native.Mathlib.Omega.{arith}
-use borrow.Author.Rules.{rules}
-use lib.ListN.{length, length-set}
 use Rattle.erasures.specs.Errors.{others}
-use Rattle.lost_errors.proofs.Sweep.{Turned, turned_none, turned-kept, turned_lost, turned_error}
+use Rattle.lost_errors.proofs.Sweep.{Turned}
 use Rattle.lost_errors.proofs.error_at.Given as goal
 
 abbrev pub invariant-loop-i : goal.invariant-loop-i

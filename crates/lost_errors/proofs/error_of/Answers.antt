@@ -2,7 +2,6 @@
 -- Assumes nothing.
 use mathlib.Core.Path.{sym, ◌∙◌}
 use Rattle.erasures.specs.Errors.Right.{error_kept, error_lost}
-use borrow.Author.Rules.{rules}
 use Rattle.lost_errors.proofs.error_of.Goals as goal
 
 pub returns-then-marks-p-eq0 : goal.returns-then-marks-p-eq0

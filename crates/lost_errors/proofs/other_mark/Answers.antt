@@ -3,7 +3,6 @@
 use mathlib.Core.Path.{sym}
 use lib.Seq.{get_or-set_other}
 use Rattle.lost_errors.proofs.Sweep.{other_self}
-use borrow.Author.Rules.{rules}
 use Rattle.lost_errors.proofs.other_mark.Goals as goal
 
 pub returns-then-i-p : goal.returns-then-i-p

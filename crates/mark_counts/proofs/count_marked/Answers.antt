@@ -1,7 +1,6 @@
 -- `mark_counts::count_marked` meets its contract: none by a look, and else by counting.
 -- Assumes nothing.
 use mathlib.Core.Path.{sym, ◌∙◌}
-use borrow.Author.Rules.{rules}
 use borrow.Author.Tests.{eqb-true}
 use Rattle.mark_counts.proofs.count_marked.Goals as goal
 

@@ -1,10 +1,8 @@
 -- `mark_counts::counted` meets its contract: those counted before i, and those from i on, are all (`Counting`).
 -- Assumes nothing.
 use Prim.Native.Nat.{◌-◌}
-use native.Mathlib.Omega.{arith}
-use borrow.Author.Rules.{rules}
 use lib.ListN.{length}
-use Rattle.mark_counts.proofs.Counting.{Counted, counted_none, counted_all, counted-fits, counted-kept, counted_lost}
+use Rattle.mark_counts.proofs.Counting.{Counted}
 use Rattle.mark_counts.proofs.counted.Given as goal
 
 abbrev pub invariant-loop-i : goal.invariant-loop-i

@@ -1,9 +1,6 @@
 -- `mark_counts::unmarked` meets its contract: nothing was met before i and none is marked from there on, exactly where none is marked at all (`Seen`).
 -- Assumes nothing.
-use Prim.Native.Nat.{◌-◌}
-use borrow.Author.Rules.{rules}
-use lib.ListN.{length}
-use Rattle.mark_counts.proofs.Look.{Seen, seen_none, seen_more, seen_all}
+use Rattle.mark_counts.proofs.Look.{seen_none, seen_more, seen_all}
 use Rattle.mark_counts.proofs.unmarked.Goals as goal
 
 pub loop-i-init : goal.loop-i-init

@@ -1,12 +1,9 @@
 -- `mending::mend_all` meets its contract. The loop's invariant: the codewords in the columns below k are handed on, the others are as
 -- they were (`Passing`).
 -- Assumes nothing.
-use Prim.Native.Nat.{◌-◌}
 use native.Mathlib.Omega.{arith}
-use borrow.Author.Rules.{rules}
-use lib.ListN.{length}
-use Rattle.rspc.specs.Either.Bytewise.{words-le}
-use Rattle.mending.proofs.Passing.{Passing, passing-none, passing_more}
+use Rattle.rspc.proofs.Either.Bytewise.{words-le}
+use Rattle.mending.proofs.Passing.{passing-none, passing_more}
 use Rattle.mending.proofs.AllPassed.{passing_all}
 use Rattle.mending.proofs.mend_all.Goals as goal
 

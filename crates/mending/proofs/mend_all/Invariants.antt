@@ -2,12 +2,8 @@
 -- they were (`Passing`).
 -- Assumes nothing.
 use Prim.Native.Nat.{◌-◌}
-use native.Mathlib.Omega.{arith}
-use borrow.Author.Rules.{rules}
 use lib.ListN.{length}
-use Rattle.rspc.specs.Either.Bytewise.{words-le}
-use Rattle.mending.proofs.Passing.{Passing, passing-none, passing_more}
-use Rattle.mending.proofs.AllPassed.{passing_all}
+use Rattle.mending.proofs.Passing.{Passing}
 use Rattle.mending.proofs.mend_all.Given as goal
 
 abbrev pub invariant-loop-k : goal.invariant-loop-k

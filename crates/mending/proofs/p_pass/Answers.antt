@@ -5,7 +5,6 @@ use native.Mathlib.Omega.{arith}
 use Rattle.rspc.specs.declared.Parity.TheVariants.{P}
 use Rattle.rspc.specs.Place.One.{of_sector, of_other}
 use Rattle.mending.proofs.Rows.{p_rows, swept_sums}
-use borrow.Author.Rules.{rules}
 use Rattle.mending.proofs.p_pass.Goals as goal
 
 pub returns-then-s-ne2352 : goal.returns-then-s-ne2352

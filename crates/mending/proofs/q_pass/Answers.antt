@@ -8,7 +8,6 @@ use Rattle.rspc.specs.declared.Parity.TheVariants.{Q}
 use Rattle.rspc.specs.Place.One.{of_sector, of_other}
 use Rattle.q_rows.specs.Laid.WaysOut.{all_laid}
 use Rattle.mending.proofs.Rows.{InRows, q_rows_lem, swept_sums}
-use borrow.Author.Rules.{rules}
 use Rattle.mending.proofs.q_pass.Goals as goal
 
 pub returns-then-s-ne2352 : goal.returns-then-s-ne2352

@@ -2,7 +2,6 @@
 -- Assumes nothing.
 use mathlib.Core.Path.{sym}
 use native.Mathlib.Omega.{arith}
-use borrow.Author.Rules.{rules}
 use lib.Seq.{length-take-le}
 use Rattle.mode01_rules.proofs.Rules.{on_length, on_mode, on_address, on_edc, on_intermediate}
 use Rattle.mode01_rules.proofs.rules_right.Goals as goal

@@ -1,7 +1,6 @@
 -- `number_groups::put_number` meets its contract: each way out is a law of `Putting`.
 -- Assumes nothing.
 use Rattle.number_groups.proofs.Putting.{put_short, put_full, room_2, room_3, put_1, put_2, put_3}
-use borrow.Author.Rules.{rules}
 use Rattle.number_groups.proofs.put_number.Goals as goal
 
 pub returns-then-list-lt3 : goal.returns-then-list-lt3

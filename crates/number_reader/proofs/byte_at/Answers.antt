@@ -1,6 +1,5 @@
 -- `number_reader::byte_at` meets its contract: each way out is a law of `Standing`.
 -- Assumes nothing.
-use borrow.Author.Rules.{rules}
 use Rattle.number_reader.proofs.NumberShown.{byte_behind, byte_there}
 use Rattle.number_reader.proofs.byte_at.Goals as goal
 

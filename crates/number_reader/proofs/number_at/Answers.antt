@@ -1,7 +1,6 @@
 -- `number_reader::number_at` meets its contract: each way out is a law of `Standing`.
 -- Assumes nothing.
 use Rattle.number_reader.proofs.NumberShown.{none_end, stands_1, stands_2, stands_3, none-two, none-three, none_above}
-use borrow.Author.Rules.{rules}
 use Rattle.number_reader.proofs.number_at.Goals as goal
 
 pub returns-then-list-at : goal.returns-then-list-at

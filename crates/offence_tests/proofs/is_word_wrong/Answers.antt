@@ -3,7 +3,6 @@
 use mathlib.Core.Path.{ap, ◌∙◌}
 use mathlib.Core.Bool.{not}
 use Rattle.offence_tests.proofs.Places.{place_early, place_off, place_on}
-use borrow.Author.Rules.{rules}
 use Rattle.offence_tests.proofs.is_word_wrong.Goals as goal
 
 pub returns-then-m-lt27 : goal.returns-then-m-lt27

@@ -1,6 +1,6 @@
 -- `outcome::clear` meets its contract: the loop fills the buffer with a list of zeros (`Fill`).
 -- Assumes nothing.
-use Prim.Native.Nat.{ℕ, ◌-◌, ◌<◌}
+use Prim.Native.Nat.{ℕ, ◌<◌}
 use mathlib.Core.Path.{sym}
 use native.Mathlib.Omega.{arith}
 use lib.ListN.{length, length-replicate, get_or-replicate}

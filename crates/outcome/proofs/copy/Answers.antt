@@ -1,6 +1,5 @@
 -- `outcome::copy` meets its contract: the loop fills `to` with the list `from` (`Fill`).
 -- Assumes nothing.
-use Prim.Native.Nat.{◌-◌}
 use mathlib.Core.Path.{refl, sym}
 use native.Mathlib.Omega.{arith}
 use borrow.Author.Tests.{eq-eqb, ne_eqb}

@@ -1,6 +1,6 @@
 -- A loop that fills a buffer from the front, one place or one part a turn.
 -- Assumes nothing.
-use Rattle.std.specs.Prelude.{◌≡◌, refl, List, [], ◌∷◌, ◌++◌, ℕ, zero, suc, ◌+◌, ◌-◌, ◌<◌, ◌≤◌, length, set, take, drop, get_or}
+use Rattle.std.specs.Prelude.{◌≡◌, refl, List, [], ◌∷◌, ◌++◌, ℕ, zero, suc, ◌+◌, ◌<◌, ◌≤◌, length, set, take, drop, get_or}
 use Rattle.std.proofs.Common.{sym, ap, ◌∙◌, subst, append-nil, not-suc-le-zero, le_of_suc-le-suc, le_of_eq, suc-add, zero-add, add-one, arith, drop_of_length-le, length-append, length-take, length-drop, take_all}
 use Rattle.outcome.specs.Buffer.{grown, Filling}
 

@@ -1,6 +1,6 @@
 -- A slice of which a part was lent as `&mut` and has come back.
 -- Assumes nothing.
-use Rattle.std.specs.Prelude.{◌≡◌, List, ◌++◌, ℕ, ◌+◌, ◌-◌, ◌≤◌, length, take, drop}
+use Rattle.std.specs.Prelude.{◌≡◌, List, ◌++◌, ℕ, ◌-◌, ◌≤◌, length, take, drop}
 use Rattle.std.proofs.Common.{ap, ◌∙◌, append-nil}
 use Rattle.std.proofs.Math.Seq.{drop-length}
 use borrow.Rule.Slice.PartMut.{put_mid, Post-is}

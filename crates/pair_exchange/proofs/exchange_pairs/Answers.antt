@@ -1,7 +1,6 @@
 -- `exchange_pairs` meets its contract: each way out is a law of `Whole`.
 -- Assumes nothing.
 use mathlib.Core.Path.{refl}
-use borrow.Author.Rules.{rules}
 use Rattle.pair_exchange.specs.Exchange.Whole.{unlike, broken, whole}
 use Rattle.pair_exchange.proofs.exchange_pairs.Goals as goal
 

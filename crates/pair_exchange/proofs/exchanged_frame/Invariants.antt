@@ -1,14 +1,8 @@
 -- `exchanged_frame` meets its contract: after `pair` turns the first `pair` pairs are those of the list `exchanged` (`Exchanging`).
 -- Assumes nothing.
 use Prim.Native.Nat.{◌*◌, ◌-◌}
-use mathlib.Core.Path.{sym, ◌∙◌}
-use native.Mathlib.Omega.{arith}
-use borrow.Author.Rules.{rules}
 use Rattle.outcome.specs.Buffer.{Filling}
-use Rattle.outcome.specs.Buffer.Filled.{filling-none, filling_all}
 use Rattle.pair_exchange.specs.Exchange.{exchanged}
-use Rattle.pair_exchange.specs.Exchange.Pairs.{length_exchanged}
-use Rattle.pair_exchange.proofs.Exchanging.{pair_more}
 use Rattle.pair_exchange.proofs.exchanged_frame.Given as goal
 
 abbrev pub invariant-loop-pair : goal.invariant-loop-pair

@@ -1,13 +1,8 @@
 -- `put_exchanged` meets its contract: after `i` turns the first `i` frames are those of the list `exchanged` (`Exchanging`).
 -- Assumes nothing.
-use Prim.Native.Nat.{◌*◌, ◌-◌, ◌/◌}
 use mathlib.Core.Path.{sym, ◌∙◌}
 use native.Mathlib.Omega.{arith}
-use borrow.Author.Rules.{rules}
-use lib.ListN.{length}
-use Rattle.outcome.specs.Buffer.{Filling}
 use Rattle.outcome.specs.Buffer.Filled.{filling-none, filling_long, filling_all}
-use Rattle.pair_exchange.specs.Exchange.{exchanged}
 use Rattle.pair_exchange.specs.Exchange.Pairs.{length_exchanged}
 use Rattle.pair_exchange.proofs.Exchanging.{frame_more}
 use Rattle.pair_exchange.proofs.put_exchanged.Goals as goal

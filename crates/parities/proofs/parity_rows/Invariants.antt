@@ -1,11 +1,8 @@
 -- `parities::parity_rows` meets its contract. The loop's invariant: the columns below k have their parity, the others their sums (`Parting`).
 -- Assumes nothing.
-use mathlib.Core.Path.{◌≡◌, ◌∙◌, subst}
-use Prim.Native.Nat.{ℕ, ◌-◌}
-use native.Mathlib.Omega.{arith}
+use Prim.Native.Nat.{◌-◌}
 use lib.ListN.{length}
-use Rattle.parities.specs.Inner.ParityRows.{ParityRows}
-use Rattle.parities.proofs.Parting.{Parting, parting_none, parting_more, parting_all}
+use Rattle.parities.proofs.Parting.{Parting}
 use Rattle.parities.proofs.parity_rows.Given as goal
 
 abbrev pub invariant-loop-k : goal.invariant-loop-k

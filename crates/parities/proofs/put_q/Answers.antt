@@ -2,7 +2,6 @@
 -- words (`Putting`).
 -- Assumes nothing.
 use Rattle.parities.proofs.Putting.{q_other, q_putting}
-use borrow.Author.Rules.{rules}
 use Rattle.parities.proofs.put_q.Goals as goal
 
 pub returns-then-s-ne2352 : goal.returns-then-s-ne2352

@@ -4,7 +4,6 @@ use Prim.Native.Nat.{◌+◌, ◌*◌}
 use lib.ListN.{get_or}
 use borrow.Author.Tests.{lt-ltb, le-ltb}
 use Rattle.profiles.specs.Profiles.{profile_in}
-use borrow.Author.Rules.{rules}
 use Rattle.profiles.proofs.profile_of.Goals as goal
 
 pub returns-then-k-ge258 : goal.returns-then-k-ge258

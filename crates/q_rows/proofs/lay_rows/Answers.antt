@@ -5,7 +5,6 @@ use native.Mathlib.Omega.{arith}
 use lib.Seq.{length-take-le}
 use Rattle.q_rows.specs.Laid.WaysOut.{other_sector, other-room, room-filled}
 use Rattle.q_rows.proofs.Behind.{laid-rows}
-use borrow.Author.Rules.{rules}
 use Rattle.q_rows.proofs.lay_rows.Goals as goal
 
 pub returns-then-s-ne2352 : goal.returns-then-s-ne2352

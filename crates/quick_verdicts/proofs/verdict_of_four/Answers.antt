@@ -1,7 +1,6 @@
 -- `quick_verdicts::verdict_of_four` meets its contract: a law of `WaysOut` for each way out without sums; for the rest `verdicts` promises the same.
 -- Assumes nothing.
 use Rattle.quick_verdicts.proofs.WaysOut.{too_long, clean}
-use borrow.Author.Rules.{rules}
 use Rattle.quick_verdicts.proofs.verdict_of_four.Goals as goal
 
 pub returns-then-w-gt-LONGEST : goal.returns-then-w-gt-LONGEST

@@ -8,7 +8,7 @@ use Rattle.codeword.specs.Code.NearOne.{near-one}
 use Rattle.rspc.specs.Words.{p_words, p_word}
 use Rattle.rspc.specs.declared.Parity.TheVariants.{P}
 use Rattle.rspc.specs.Words.P.{length_p, bytes_p}
-use Rattle.rspc.specs.Either.Bytewise.{covers}
+use Rattle.rspc.proofs.Either.Bytewise.{covers}
 use Rattle.sector.specs.Correct.Whole.{covered_one}
 use Rattle.repair.specs.Repair.{Sought, Repairs, wrong_incoming, wrong-outgoing, none-near, handed_out}
 

@@ -1,10 +1,8 @@
 -- `replay::frames_from` meets its contract: the loop's invariant is that the bits before edge j are counted (`Counting`).
 -- Assumes nothing.
-use borrow.Author.Rules.{rules}
 use Prim.Native.Nat.{◌-◌, ◌/◌}
-use native.Mathlib.Omega.{arith}
 use lib.ListN.{length}
-use Rattle.replay.proofs.Counting.{Counting, counting_none, counting_within, bits_few, counting_more, counting_all}
+use Rattle.replay.proofs.Counting.{Counting}
 use Rattle.replay.proofs.frames_from.Given as goal
 
 abbrev pub invariant-loop-j : goal.invariant-loop-j

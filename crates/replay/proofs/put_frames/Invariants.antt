@@ -1,13 +1,10 @@
 -- `replay::put_frames` meets its contract: the loop's invariant is that the Channel bits before bit q are in the buffer as far as `end` (`Drawing`).
 -- Assumes nothing.
-use mathlib.Core.Path.{sym, ap, ◌∙◌}
-use Prim.Native.Nat.{ℕ, ◌-◌}
-use native.Mathlib.Omega.{arith}
-use lib.ListN.{length, drop, length-replicate}
+use Prim.Native.Nat.{◌-◌}
+use lib.ListN.{drop}
 use Rattle.replaying.specs.Replay.{channel}
 use Rattle.legal_runs.specs.EdgeBits.{runs}
-use Rattle.replay.proofs.Drawing.{Drawing, drawing_none, few_edges, drawing_room, b_some, drawing_more, drawing_all}
-use borrow.Author.Rules.{rules}
+use Rattle.replay.proofs.Drawing.{Drawing}
 use Rattle.replay.proofs.put_frames.Given as goal
 
 abbrev pub invariant-loop-q : goal.invariant-loop-q

@@ -1,7 +1,6 @@
 -- `replay::put_one` meets its contract: a ONE in its byte (`one_put`).
 -- Assumes nothing.
 use Rattle.replay.proofs.Packing.{one_put}
-use borrow.Author.Rules.{rules}
 use Rattle.replay.proofs.put_one.Goals as goal
 
 pub returns : goal.returns

@@ -3,7 +3,7 @@
 use Rattle.std.specs.Prelude.{◌≡◌, refl, List, [], ◌∷◌, ℕ, ◌+◌, ◌-◌, ◌*◌, ◌<◌, ◌≤◌, length, replicate}
 use Rattle.std.proofs.Common.{arith, length-append}
 use Rattle.std.proofs.lemmas.List.{length-replicate}
-use Rattle.bits.specs.Bits.Packed.{length-pack}
+use Rattle.bits.proofs.Bits.Packed.{length-pack}
 use Rattle.captures.specs.Counts.{bits_in}
 use Rattle.replaying.specs.Replay.{channel, frames_from, bytes_for, packed, frames_of}
 

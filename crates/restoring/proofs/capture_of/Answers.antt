@@ -1,6 +1,5 @@
 -- `restoring::capture_of` meets its contract: each way out is a law of `WaysOut`.
 -- Assumes nothing.
-use Rattle.std.proofs.Common.{rules}
 use Rattle.restoring.proofs.WaysOut.{on_long, on_room, is_ready, on_none, on_done}
 use Rattle.restoring.proofs.capture_of.Goals as goal
 

@@ -1,6 +1,5 @@
 -- `restoring::put_count` meets its contract: two stores (`Putting`).
 -- Assumes nothing.
-use Rattle.std.proofs.Common.{rules}
 use Rattle.restoring.proofs.Putting.{room-behind, counted}
 use Rattle.restoring.proofs.put_count.Goals as goal
 

@@ -1,6 +1,6 @@
 -- `restoring::put_counts` meets its contract: the loop's invariant is `Reading`; its ways out are `on_malformed`, `on_many` and `on_end`.
 -- Assumes nothing.
-use Rattle.std.proofs.Common.{◌≡◌, ℕ, ◌-◌, List, length, sym, ap, ◌∙◌, arith, rules}
+use Rattle.std.proofs.Common.{◌≡◌, ℕ, List, length, sym, ap, ◌∙◌, arith}
 use lib.ListN.{length-replicate}
 use Rattle.restoring.specs.Inner.Read.{Ready}
 use Rattle.number_reader.specs.Leads.Says.{says-number, says_none}

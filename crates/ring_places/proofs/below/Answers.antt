@@ -1,10 +1,10 @@
 -- `ring_places::below` meets its contract: what was found and what is left to test decide.
 -- Assumes nothing.
-use Prim.Native.Nat.{◌+◌, ◌-◌}
-use mathlib.Core.Path.{◌≡◌, refl, sym, ap, ◌∙◌}
+use Prim.Native.Nat.{◌+◌}
+use mathlib.Core.Path.{refl, sym, ap, ◌∙◌}
 use mathlib.Core.Bool.{Bool, ◌&&◌}
 use native.Mathlib.Omega.{arith}
-use lib.ListN.{length, drop}
+use lib.ListN.{drop}
 use Rattle.rings.specs.Rings.{below}
 use Rattle.rings.specs.Rings.Moving.{below_more, below_end}
 use Rattle.ring_places.proofs.below.Goals as goal

@@ -1,12 +1,10 @@
 -- `ring_places::below` meets its contract: what was found and what is left to test decide.
 -- Assumes nothing.
-use Prim.Native.Nat.{◌+◌, ◌-◌}
-use mathlib.Core.Path.{◌≡◌, refl, sym, ap, ◌∙◌}
-use mathlib.Core.Bool.{Bool, ◌&&◌}
-use native.Mathlib.Omega.{arith}
+use Prim.Native.Nat.{◌-◌}
+use mathlib.Core.Path.{◌≡◌}
+use mathlib.Core.Bool.{◌&&◌}
 use lib.ListN.{length, drop}
 use Rattle.rings.specs.Rings.{below}
-use Rattle.rings.specs.Rings.Moving.{below_more, below_end}
 use Rattle.ring_places.proofs.below.Given as goal
 
 abbrev pub invariant-loop-k : goal.invariant-loop-k

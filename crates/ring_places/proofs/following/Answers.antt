@@ -6,7 +6,6 @@ use mathlib.Core.Bool.{Bool, cond}
 use native.Mathlib.Omega.{arith}
 use borrow.Author.Tests.{lt-ltb, le-ltb}
 use Rattle.rings.specs.Ring.{following}
-use borrow.Author.Rules.{rules}
 use Rattle.ring_places.proofs.following.Goals as goal
 
 pub returns-then-d-p : goal.returns-then-d-p

@@ -1,10 +1,8 @@
 -- `ring_places::onward` meets its contract: the places that have gone on, and those that are left.
 -- Assumes nothing.
-use Prim.Native.Nat.{◌+◌, ◌-◌}
-use mathlib.Core.Path.{◌≡◌, refl, sym, ◌∙◌}
-use mathlib.Core.List.{◌++◌}
+use mathlib.Core.Path.{refl, sym, ◌∙◌}
 use native.Mathlib.Omega.{arith}
-use lib.ListN.{length, take, drop, length-set}
+use lib.ListN.{length-set}
 use Rattle.rings.specs.Rings.{onward}
 use Rattle.rings.specs.Rings.Moving.{onward_more, onward_end}
 use Rattle.ring_places.proofs.onward.Goals as goal

@@ -1,12 +1,10 @@
 -- `ring_places::onward` meets its contract: the places that have gone on, and those that are left.
 -- Assumes nothing.
-use Prim.Native.Nat.{◌+◌, ◌-◌}
-use mathlib.Core.Path.{◌≡◌, refl, sym, ◌∙◌}
+use Prim.Native.Nat.{◌-◌}
+use mathlib.Core.Path.{◌≡◌}
 use mathlib.Core.List.{◌++◌}
-use native.Mathlib.Omega.{arith}
-use lib.ListN.{length, take, drop, length-set}
+use lib.ListN.{length, take, drop}
 use Rattle.rings.specs.Rings.{onward}
-use Rattle.rings.specs.Rings.Moving.{onward_more, onward_end}
 use Rattle.ring_places.proofs.onward.Given as goal
 
 abbrev pub invariant-loop-k : goal.invariant-loop-k

@@ -1,10 +1,9 @@
 -- `ring_swap::swap` meets its contract. The loop's invariant is `Swapping`; `pass` and `hit` carry it over a row, and a row that does not fit ends the step.
 -- Assumes nothing.
 use Prim.Native.Nat.{◌-◌}
-use mathlib.Core.Path.{◌≡◌, refl}
-use native.Mathlib.Omega.{arith}
-use lib.ListN.{length, get_or}
-use Rattle.rings.specs.Swap.Swapping.{Swapping, begin, pass, no_place, past_ring, cut_ring, hit, all_out, all_next}
+use mathlib.Core.Path.{◌≡◌}
+use lib.ListN.{length}
+use Rattle.rings.specs.Swap.Swapping.{Swapping}
 use Rattle.ring_swap.proofs.swap.Given as goal
 
 abbrev pub invariant-loop-k : goal.invariant-loop-k

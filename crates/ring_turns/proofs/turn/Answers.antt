@@ -1,7 +1,6 @@
 -- `ring_turns::turn` meets its contract: what `swap` does to the rests of the places and of the store that are lent to it (`turn-clamped`).
 -- Assumes nothing.
 use Rattle.rings.specs.Swap.Clamped.{turn-clamped}
-use borrow.Author.Rules.{rules}
 use Rattle.ring_turns.proofs.turn.Goals as goal
 
 pub returns : goal.returns

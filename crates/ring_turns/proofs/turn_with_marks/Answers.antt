@@ -5,7 +5,6 @@ use native.Mathlib.Omega.{arith}
 use lib.ListN.{drop}
 use lib.Seq.{length-take-le}
 use Rattle.rings.specs.Swap.Marked.{both_out_lem, both-next}
-use borrow.Author.Rules.{rules}
 use Rattle.ring_turns.proofs.turn_with_marks.Goals as goal
 
 pub slice_bounds-turn-end-2 : goal.slice_bounds-turn-end-2

@@ -1,6 +1,6 @@
 -- Places that are legal: below their rows' waits, and as many as rows wait. A step leaves them legal.
 -- Assumes nothing.
-use Rattle.std.specs.Prelude.{◌≡◌, refl, Bool, true, false, ◌&&◌, List, [], ◌∷◌, ◌++◌, ℕ, zero, suc, ◌+◌, ◌<◌, ltb, length, take, drop, get_or}
+use Rattle.std.specs.Prelude.{◌≡◌, refl, Bool, true, false, ◌&&◌, List, [], ◌∷◌, ◌++◌, ℕ, zero, suc, ◌<◌, ltb, length, take, drop, get_or}
 use Rattle.std.proofs.Common.{ap, arith, ltb-true, lt-ltb, length-drop}
 use Rattle.rings.specs.Ring.{following}
 use Rattle.rings.specs.Ring.Turns.{following-below}

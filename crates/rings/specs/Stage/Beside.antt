@@ -1,9 +1,9 @@
 -- Two stages that took a step one after the other, their places and stores one behind the other, are one stage that took one.
 -- Assumes nothing.
-use Rattle.std.specs.Prelude.{◌≡◌, List, ◌++◌, ℕ, ◌+◌, length}
+use Rattle.std.specs.Prelude.{◌≡◌, List, ◌++◌, ℕ, length}
 use Rattle.std.proofs.Common.{sym, ap, ap₂, ◌∙◌, arith, length-append}
 use Rattle.lines.specs.Delay.{rows_out, rows_next, total}
-use Rattle.lines.specs.Stream.Beside.{total_beside, rows_beside, next_beside}
+use Rattle.lines.proofs.Stream.Beside.{total_beside, rows_beside, next_beside}
 use Rattle.rings.specs.Rings.{waits, onward, unrolled_all}
 use Rattle.rings.specs.Rings.Places.{InPlace, in_place_length, in_place_joined, waits_joined, onward_joined, length-onward}
 use Rattle.rings.specs.Rings.Lengths.{length-unrolled_all}

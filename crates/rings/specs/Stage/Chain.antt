@@ -1,6 +1,6 @@
 -- Three stages of rings one after the other, with a function before each, are a step of the chain of the lines that they stand for.
 -- Assumes nothing.
-use Rattle.std.specs.Prelude.{◌≡◌, ℕ, ◌+◌, length, take, drop}
+use Rattle.std.specs.Prelude.{◌≡◌, ℕ, length, take, drop}
 use Rattle.std.proofs.Common.{sym, ◌∙◌, arith, take_at, drop_at, take_all, drop-drop}
 use Rattle.std.proofs.Math.Path.{ap, ap₂}
 use mathlib.Core.List.{List, ◌++◌}

@@ -1,6 +1,6 @@
 -- A step of the rings is a step of the lines that they stand for.
 -- Assumes nothing.
-use Rattle.std.specs.Prelude.{◌≡◌, refl, Bool, true, false, cond, List, [], ◌∷◌, ◌++◌, ℕ, zero, suc, ◌+◌, ◌<◌, ◌≤◌, length, take, drop, get_or, set}
+use Rattle.std.specs.Prelude.{◌≡◌, refl, Bool, true, false, cond, List, [], ◌∷◌, ◌++◌, ℕ, zero, suc, ◌<◌, ◌≤◌, length, take, drop, get_or, set}
 use Rattle.std.proofs.Common.{sym, ap, ap₂, ◌∙◌, not-suc-le-zero, le_of_suc-le-suc, arith, lt-ltb, le-leb, length-append, length-drop, length-set, take_at, drop_at, get_or-take, length-take-le}
 use Rattle.lines.specs.Delay.{line_out, line_next, rows_out, rows_next, total}
 use Rattle.rings.specs.Ring.{unrolled, following}

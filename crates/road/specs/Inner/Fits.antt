@@ -6,7 +6,7 @@ use Rattle.std.proofs.lemmas.List.{length-replicate, length-map}
 use Rattle.calls.specs.Step.{Step, is_done}
 use Rattle.calls.specs.Calls.{run, done_of}
 use Rattle.circ.specs.Rings.{Rings}
-use Rattle.circ.specs.Rings.Alike.{as_lines}
+use Rattle.circ.proofs.Rings.Alike.{as_lines}
 use Rattle.circ.specs.Steps.{fits_writer}
 use Rattle.circ.specs.Steps.Fits.{both_fit}
 use Rattle.circ_streams.specs.Calls.{fits_both, fitting, incomings, writer_frames, reader_frames}

@@ -11,7 +11,7 @@ use Rattle.calls.specs.Step.{Step, step}
 use Rattle.calls.specs.Calls.{run, firsts}
 use Rattle.calls.specs.Calls.Firsts.{length-firsts, map-firsts, begins}
 use Rattle.xor.specs.Added.Places.{bytes_added}
-use Rattle.lines.specs.Stream.Rows.{bytes_out_lem}
+use Rattle.lines.proofs.Stream.Rows.{bytes_out_lem}
 use Rattle.circ.specs.Rows.{after_c1, mask, inverted}
 use Rattle.circ.specs.Chains.{writer_at, c1_word}
 use Rattle.circ.specs.Codes.{q_of, p_of}
@@ -20,7 +20,7 @@ use Rattle.circ_streams.specs.Streams.{F1Frames, F2Frames, f2_at}
 use Rattle.circ_streams.specs.Calls.{Call, writer_in_place, writer_done, writer_frames}
 use Rattle.circ_streams.specs.Calls.Alike.{writer_done_alike}
 use Rattle.circ_streams.specs.Calls.Streams.{writer_calls}
-use Rattle.circ_streams.specs.Inner.AsWritten.{length-written}
+use Rattle.circ_streams.proofs.Inner.AsWritten.{length-written}
 use Rattle.circ_streams.specs.Inner.Codes.{circ_coding}
 use Rattle.circ_streams.specs.Inner.WriterWords.{rows_written, written_is, wide₃, bytes_c1_lem}
 use Rattle.road.specs.Road.{OfBytes, calls_with, left, encoded}

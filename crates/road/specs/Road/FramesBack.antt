@@ -13,12 +13,12 @@ use Rattle.calls.specs.Step.{Step, step}
 use Rattle.calls.specs.Calls.Firsts.{length-firsts, begins}
 use Rattle.circ.specs.Marks.{lost_by}
 use Rattle.circ.specs.Rings.{fresh_reader_rings}
-use Rattle.circ.specs.Rings.Alike.{as_lines}
+use Rattle.circ.proofs.Rings.Alike.{as_lines}
 use Rattle.circ_streams.specs.Streams.{NoneLost, round_trip}
 use Rattle.circ_streams.specs.Calls.{Call, MarkedFrame, marked, reader_in_place, writer_done, reader_done, writer_frames, reader_frames}
 use Rattle.circ_streams.specs.Calls.Alike.{reader_done_alike}
 use Rattle.circ_streams.specs.Calls.Streams.{reader_calls}
-use Rattle.circ_streams.specs.Calls.ThereAndBack.{frames_of, marks_of, calls_there_and_back, calls_zeros_before}
+use Rattle.circ_streams.proofs.Calls.ThereAndBack.{frames_of, marks_of, calls_there_and_back, calls_zeros_before}
 use Rattle.road.specs.Road.{OfBytes, calls_with, left, encoded, unmarked, decoding}
 use Rattle.road.specs.Inner.Fits.{writer_takes, reader_takes, as_lines_lem, left_as_lines}
 use Rattle.road.specs.Inner.Made.{f1_frames_lem, encoded-left, length-encoded, encoded_of}

@@ -2,7 +2,6 @@
 -- Assumes nothing.
 use mathlib.Core.Path.{sym, ap}
 use Prim.Native.Nat.{◌/◌}
-use borrow.Author.Rules.{rules}
 use Rattle.rspc.specs.Words.{place}
 use Rattle.rspc.specs.Words.Q.{q_data, q_parity}
 use Rattle.rspc.proofs.place_of.Goals as goal

@@ -2,7 +2,6 @@
 -- Assumes nothing.
 use native.Mathlib.Omega.{arith}
 use Rattle.salvage.proofs.WaysOut.{in_range_lem, on_incoming, on_sector, on_list, on_passes, on_work}
-use borrow.Author.Rules.{rules}
 use Rattle.salvage.proofs.salvage.Goals as goal
 
 pub returns-then-received-ne2352 : goal.returns-then-received-ne2352

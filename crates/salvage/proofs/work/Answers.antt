@@ -4,7 +4,6 @@ use mathlib.Core.Path.{sym, ap, ◌∙◌}
 use lib.ListN.{length}
 use Rattle.sector.specs.Layout.Zeros.{length-zeros}
 use Rattle.salvage.proofs.WaysOut.{copied, worked_none, worked_some}
-use borrow.Author.Rules.{rules}
 use Rattle.salvage.proofs.work.Goals as goal
 
 pub returns-in_default : goal.returns-in_default

@@ -4,7 +4,7 @@ use Rattle.std.specs.Prelude.{◌≡◌, refl, cond, List, ℕ, eqb, get_or}
 use Rattle.std.proofs.Common.{sym, ap, ◌∙◌}
 use Rattle.outcome.specs.Say.{Say, done, refused}
 use Rattle.salvaging.specs.Salvage.{Salvages}
-use Rattle.salvaging.specs.Salvage.One.{salvages_one}
+use Rattle.salvaging.proofs.Salvage.One.{salvages_one}
 use Rattle.salvage.specs.declared.Salvaged.{Salvaged}
 use Rattle.salvage.specs.declared.Salvaged.TheVariants.{HandedOut, WrongIncoming, WrongOutgoing, WrongPasses, NoneCorrect}
 use Rattle.salvage.specs.Answers.{say_of}

@@ -1,7 +1,6 @@
 -- `salvage_passes::is_correct` meets its contract: judging passes with mode 01 exactly the correct Sectors of Mode 01.
 -- Assumes nothing.
 use Rattle.salvage_passes.proofs.Trials.{on_fault, on_passed}
-use borrow.Author.Rules.{rules}
 use borrow.Enum.Refused.{opened}
 use Rattle.salvage_passes.proofs.is_correct.Goals as goal
 

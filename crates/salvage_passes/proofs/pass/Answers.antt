@@ -1,7 +1,6 @@
 -- `salvage_passes::pass` meets its contract: an odd pass is over P, an even one over Q.
 -- Assumes nothing.
 use Rattle.salvage_passes.proofs.Trials.{over_p, over_q}
-use borrow.Author.Rules.{rules}
 use Rattle.salvage_passes.proofs.pass.Goals as goal
 
 pub returns-then-k-eq1 : goal.returns-then-k-eq1

@@ -1,6 +1,5 @@
 -- `salvage_passes::tries` meets its contract: what is freshened is tried, and judging decides.
 -- Assumes nothing.
-use borrow.Author.Rules.{rules}
 use Rattle.salvage_passes.proofs.tries.Goals as goal
 
 pub returns : goal.returns

@@ -1,7 +1,7 @@
 -- A pass in its turn leaves one list.
 -- Assumes nothing.
 use Rattle.std.specs.Prelude.{◌≡◌, List, ℕ}
-use Rattle.rspc.specs.Pass.One.{pass_one}
+use Rattle.rspc.proofs.Pass.One.{pass_one}
 use Rattle.salvaging.specs.Turns.{turn}
 use Rattle.salvage_passes.specs.Passes.{Passes}
 

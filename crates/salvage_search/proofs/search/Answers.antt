@@ -2,10 +2,8 @@
 -- (`Searching`).
 -- Assumes nothing.
 use mathlib.Core.Path.{sym, ◌∙◌}
-use Prim.Native.Nat.{◌-◌, ◌≤◌}
 use native.Mathlib.Omega.{arith}
-use borrow.Author.Rules.{rules}
-use Rattle.salvage_search.proofs.Searching.{on_sector, on_copy, searched, Searching, long_u, trial, searching_none, searching_more, searching_found, searching_all}
+use Rattle.salvage_search.proofs.Searching.{on_sector, on_copy, searched, long_u, trial, searching_none, searching_more, searching_found, searching_all}
 use Rattle.salvage_search.proofs.search.Goals as goal
 
 pub returns-then-s-ne2352 : goal.returns-then-s-ne2352
@@ -38,12 +36,11 @@ pub loop-k-smaller : goal.loop-k-smaller
 loop-k-smaller c = omega arith
 
 pub loop-k-preserved : goal.loop-k-preserved
-loop-k-preserved c =
-    (
-      searching_more c.loop-k.invariant.0 _ _ _ c.copy.result _ c.pass.ensures c.copy.ensures c.tries.ensures
-          c.if-tries.false,
-      omega arith,
-    )
+loop-k-preserved c = (
+  searching_more c.loop-k.invariant.0 _ _ _ c.copy.result _ c.pass.ensures c.copy.ensures c.tries.ensures
+      c.if-tries.false,
+  omega arith,
+)
 
 pub shape_of-s : goal.shape_of-s
 shape_of-s c = c.loop-k.invariant.0.long ∙ sym c.if-s-ne2352.false

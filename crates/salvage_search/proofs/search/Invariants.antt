@@ -1,11 +1,8 @@
 -- `salvage_search::search` meets its contract. The loop's invariant: what k passes have left, and that none of them yielded a correct trial
 -- (`Searching`).
 -- Assumes nothing.
-use mathlib.Core.Path.{sym, ◌∙◌}
 use Prim.Native.Nat.{◌-◌, ◌≤◌}
-use native.Mathlib.Omega.{arith}
-use borrow.Author.Rules.{rules}
-use Rattle.salvage_search.proofs.Searching.{on_sector, on_copy, searched, Searching, long_u, trial, searching_none, searching_more, searching_found, searching_all}
+use Rattle.salvage_search.proofs.Searching.{Searching}
 use Rattle.salvage_search.proofs.search.Given as goal
 
 abbrev pub invariant-loop-k : goal.invariant-loop-k

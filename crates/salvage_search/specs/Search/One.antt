@@ -6,7 +6,7 @@ use Rattle.std.proofs.Math.Decide.{ℕ_discrete}
 use Rattle.trial.specs.Tried.{Tried}
 use Rattle.trial.specs.Tried.One.{tried_one}
 use Rattle.salvaging.specs.Turns.One.{after_one}
-use Rattle.salvaging.specs.Salvage.One.{result_one, found-not-none}
+use Rattle.salvaging.proofs.Salvage.One.{result_one, found-not-none}
 use Rattle.salvage_search.specs.declared.Found.{Found}
 use Rattle.salvage_search.specs.declared.Found.TheVariants as found
 use Rattle.salvage_search.specs.Search.{Finds, made, Left, Search, Searched}

@@ -4,7 +4,7 @@ use Rattle.std.specs.Prelude.{◌≡◌, refl, List, ℕ, suc, length}
 use Rattle.std.proofs.Common.{sym, ◌∙◌, subst}
 use Rattle.rspc.specs.declared.Parity.TheVariants.{P}
 use Rattle.rspc.specs.Pass.{Passed}
-use Rattle.rspc.specs.Pass.One.{passed_one}
+use Rattle.rspc.proofs.Pass.One.{passed_one}
 use Rattle.salvaging.specs.Turns.{turn, After, unpassed, passed}
 
 pub after_one : {r s t : List ℕ} {n : ℕ} → After r n s → After r n t → s ≡ t

@@ -1,6 +1,5 @@
 -- `put_scrambled` meets its contract: the buffer is the Sector, then all of it but the Sync is added to the sequence (`Masked`).
 -- Assumes nothing.
-use borrow.Author.Rules.{rules}
 use Rattle.scrambling.proofs.Masked.{masked}
 use Rattle.scrambling.proofs.put_scrambled.Goals as goal
 

@@ -1,6 +1,5 @@
 -- `scramble` meets its contract: each way out is a law of `Entry`, whose premises are what the tests and `put_scrambled` said.
 -- Assumes nothing.
-use borrow.Author.Rules.{rules}
 use Rattle.entry.specs.Entry.WaysOut.{on_incoming, on_outgoing, on_done}
 use Rattle.scrambling.specs.Scramble.{scrambled}
 use Rattle.scrambling.proofs.scramble.Goals as goal

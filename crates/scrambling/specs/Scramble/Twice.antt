@@ -1,6 +1,6 @@
 -- Laws of scrambling: the Sync is left, each other byte is added to its byte of the sequence, and twice gives the Sector again.
 -- Assumes nothing.
-use Rattle.std.specs.Prelude.{◌≡◌, ℕ, ◌+◌, length, drop}
+use Rattle.std.specs.Prelude.{◌≡◌, ℕ, length, drop}
 use Rattle.std.proofs.Math.Path.{ap, ap₂}
 use Rattle.std.proofs.Common.{◌∙◌, le_of_eq, arith, length-take-le}
 use mathlib.Core.List.{List, [], ◌++◌}

@@ -2,7 +2,6 @@
 -- Assumes nothing.
 use mathlib.Core.Path.{sym, ◌∙◌}
 use Rattle.section_frames.specs.Frames.Due.{near_within, wrong_out, wrong_frames, wrong_control, too_far, all_laid}
-use borrow.Author.Rules.{rules}
 use Rattle.section_frames.proofs.write_frames.Goals as goal
 
 pub returns-then-out-ne7203 : goal.returns-then-out-ne7203

@@ -3,7 +3,7 @@
 use Rattle.std.specs.Prelude.{◌≡◌, refl, Bool, true, false, List, ℕ}
 use Rattle.std.proofs.Common.{sym, ap, ◌∙◌}
 use Rattle.outcome.specs.Bytes.{Bytes}
-use Rattle.bits.specs.Bits.Packed.{packed}
+use Rattle.bits.proofs.Bits.Packed.{packed}
 use Rattle.merging.specs.Chosen.{SoFar}
 use Rattle.traces.specs.declared.Tally.{Tally}
 use Rattle.section_frames.specs.Section.{section_after}

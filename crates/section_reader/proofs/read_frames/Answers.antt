@@ -2,10 +2,8 @@
 -- (`frames_more`).
 -- Assumes nothing.
 use mathlib.Core.Path.{sym, ◌∙◌}
-use Prim.Native.Nat.{◌-◌}
 use native.Mathlib.Omega.{arith}
-use borrow.Author.Rules.{rules}
-use Rattle.section_reader.proofs.FramesRead.{FramesRead, frames_none, frames_long, frames_room, frames_more, frames_all}
+use Rattle.section_reader.proofs.FramesRead.{frames_none, frames_long, frames_room, frames_more, frames_all}
 use Rattle.section_reader.proofs.read_frames.Goals as goal
 
 pub loop-f-init : goal.loop-f-init

@@ -1,11 +1,8 @@
 -- `read_frames` meets its contract. The invariant: the frames before f are in both buffers (`FramesRead`); one that is taken fills its places
 -- (`frames_more`).
 -- Assumes nothing.
-use mathlib.Core.Path.{sym, ◌∙◌}
 use Prim.Native.Nat.{◌-◌}
-use native.Mathlib.Omega.{arith}
-use borrow.Author.Rules.{rules}
-use Rattle.section_reader.proofs.FramesRead.{FramesRead, frames_none, frames_long, frames_room, frames_more, frames_all}
+use Rattle.section_reader.proofs.FramesRead.{FramesRead}
 use Rattle.section_reader.proofs.read_frames.Given as goal
 
 abbrev pub invariant-loop-f : goal.invariant-loop-f

@@ -1,7 +1,6 @@
 -- `read_section` meets its contract: each way out is one of `WaysOut`, and `read_frames` promises the bytes and marks.
 -- Assumes nothing.
 use Rattle.section_reader.proofs.WaysOut.{wrong-channel, wrong_bytes, wrong_marks, all_read}
-use borrow.Author.Rules.{rules}
 use Rattle.section_reader.proofs.read_section.Goals as goal
 
 pub returns-then-channel-ne7203 : goal.returns-then-channel-ne7203

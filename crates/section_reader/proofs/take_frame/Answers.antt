@@ -1,7 +1,6 @@
 -- `take_frame` meets its contract: a frame that is read gives what its words say (`taken_read`), one that is lost zeros and marks 4 (`taken_lost`).
 -- Assumes nothing.
 use Rattle.section_reader.proofs.FrameTaken.{taken_read, taken_lost}
-use borrow.Author.Rules.{rules}
 use Rattle.section_reader.proofs.take_frame.Goals as goal
 
 pub returns-in_default : goal.returns-in_default

@@ -4,7 +4,7 @@ use Rattle.std.specs.Prelude.{◌≡◌, List, ℕ, ◌*◌, ◌<◌, take, drop
 use Rattle.std.proofs.Common.{sym, ◌∙◌}
 use Rattle.outcome.specs.Table.Entries.{tabulated-same}
 use Rattle.channel_frame.specs.ChannelFrame.{frame_bits, frame_byte, frame_mark}
-use Rattle.channel_frame.specs.ChannelFrame.Own.{same_byte, same-mark}
+use Rattle.channel_frame.proofs.ChannelFrame.Own.{same_byte, same-mark}
 use Rattle.section_reader.specs.Reading.{bytes_read, marks_read}
 use Rattle.section_reader.specs.Reading.Places.{bytes_of_frame, marks_of_frame}
 

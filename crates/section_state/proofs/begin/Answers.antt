@@ -4,7 +4,6 @@ use mathlib.Core.Path.{ap, ◌∙◌}
 use mir.Syntax.{w64}
 use mir.ValLaws.{to_z-of_z}
 use Rattle.section_state.specs.Carried.{above, below, level_now}
-use borrow.Author.Rules.{rules}
 use Rattle.section_state.proofs.begin.Goals as goal
 
 pub returns : goal.returns

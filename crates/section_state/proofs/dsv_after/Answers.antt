@@ -10,7 +10,6 @@ use borrow.Author.Tests.{lt-ltb, le-ltb}
 use Rattle.section_state.specs.Tallies.{dsv_then}
 use Rattle.section_state.specs.Tallies.Range.{dsv-small}
 use Rattle.section_state.proofs.Signs.{sub-fits}
-use borrow.Author.Rules.{rules}
 use Rattle.section_state.proofs.dsv_after.Goals as goal
 
 pub returns-then-t-lt1152921504606846976-2 : goal.returns-then-t-lt1152921504606846976-2

@@ -5,7 +5,6 @@ use borrow.Author.Tests.{le-leb, lt-leb}
 use mir.Syntax.{w64}
 use mir.ValLaws.{to_z-of_z}
 use Rattle.section_state.specs.Carried.{level_right}
-use borrow.Author.Rules.{rules}
 use Rattle.section_state.proofs.is_possible.Goals as goal
 
 pub returns-then-sections-le450000 : goal.returns-then-sections-le450000

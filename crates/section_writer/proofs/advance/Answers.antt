@@ -10,7 +10,6 @@ use mir.ValLaws.{to_z-of_z}
 use Rattle.section_state.proofs.Signs.{sub-fits, then_fits}
 use Rattle.section_state.specs.Carried.{level_then}
 use Rattle.section_state.specs.Tallies.Range.{dsv-small}
-use borrow.Author.Rules.{rules}
 use Rattle.section_writer.proofs.advance.Goals as goal
 
 pub returns : goal.returns

@@ -17,7 +17,7 @@ use Rattle.section_frames.specs.Section.{word_at, frame_words, with_words, with_
 use Rattle.section_writer.specs.WriteSay.{section}
 use Rattle.sections.specs.Stream.{at_start}
 use Rattle.sections.specs.Grown.{Grown}
-use Rattle.merging.specs.Chosen.ThreeBits.{word_three, word_binary, header_three, header_binary}
+use Rattle.merging.proofs.Chosen.ThreeBits.{word_three, word_binary, header_three, header_binary}
 
 grown-none : (w : SoFar) → Grown 0 w w
 grown-none w = record { bits = []; long = refl; binary = tt; is = λ i. record { bits = sym (append-nil w.bits) i; level = w.level; plus = sym (plus_none w.plus) i; minus = sym (plus_none w.minus) i } }

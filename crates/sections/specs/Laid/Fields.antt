@@ -10,7 +10,7 @@ use Rattle.merging.specs.Rule.{allowed}
 use Rattle.fields.specs.Fields.{field_at}
 use Rattle.fields.specs.Fields.Parts.{field_keep}
 use Rattle.section_frames.specs.Section.{with_words}
-use Rattle.merging.specs.Chosen.ThreeBits.{word_three}
+use Rattle.merging.proofs.Chosen.ThreeBits.{word_three}
 use Rattle.sections.specs.Grown.{Grown}
 use Rattle.sections.specs.Grown.Section.{grown_word, grown-words}
 

@@ -13,18 +13,18 @@ use Rattle.outcome.specs.Table.{tabulated}
 use Rattle.bits.specs.Bits.{bits_of}
 use Rattle.words.specs.RunRule.{runs}
 use Rattle.merging.specs.Automaton.{headed, passes, steps, live, start22, StateOf}
-use Rattle.merging.specs.Ready.Agrees.{header_agrees_lem, header_passes}
+use Rattle.merging.proofs.Ready.Agrees.{header_agrees_lem, header_passes}
 use Rattle.bits.specs.Binary.{Binary}
 use Rattle.merging.specs.Chosen.{SoFar, after, dsv_after, before_header, with_word, with_header, with_tail}
 use Rattle.merging.specs.Places.{Placed}
 use Rattle.merging.specs.Places.Kept.{placed_header, placed-whole}
 use Rattle.merging.specs.Ready.{ready}
 use Rattle.merging.specs.Rule.{sync_header_bits, allowed}
-use Rattle.merging.specs.Ready.Taken.{header_taken}
+use Rattle.merging.proofs.Ready.Taken.{header_taken}
 use Rattle.merging.specs.Automaton.Speaks.{state_header}
 use Rattle.merging.specs.Automaton.Steps.{steps-append, live-first}
 use Rattle.section_frames.specs.Section.{word_at, frame_words, with_words, with_frame, with_frames}
-use Rattle.merging.specs.Chosen.ThreeBits.{header_three, header_binary}
+use Rattle.merging.proofs.Chosen.ThreeBits.{header_three, header_binary}
 use Rattle.sections.specs.RuleHolds.{Opening, Running, Ran}
 use Rattle.sections.specs.RuleHolds.Word.{run_word, word_takes, more_own, more_state, more_placed}
 

@@ -8,18 +8,18 @@ use Rattle.bits.specs.Bits.Numbers.{length-bits}
 use Rattle.words.specs.Words.{word_of, sync0, sync1}
 use Rattle.merging.specs.Automaton.{headed, passes, steps, live, StateOf}
 use Rattle.merging.specs.Ready.{Takes, ready}
-use Rattle.merging.specs.Ready.Agrees.{taken, word_agrees_lem, word_passes, word_ready}
+use Rattle.merging.proofs.Ready.Agrees.{taken, word_agrees_lem, word_passes, word_ready}
 use Rattle.bits.specs.Binary.{Binary}
 use Rattle.bits.specs.Binary.Parts.{binary_append, binary_bits}
 use Rattle.merging.specs.Chosen.{SoFar, after, dsv_after, before_word, with_word}
 use Rattle.merging.specs.Places.{earlier, Placed}
 use Rattle.merging.specs.Places.Kept.{placed_more}
 use Rattle.merging.specs.Rule.{allowed}
-use Rattle.merging.specs.Ready.Taken.{word_taken, sync0-taken, sync1-taken}
+use Rattle.merging.proofs.Ready.Taken.{word_taken, sync0-taken, sync1-taken}
 use Rattle.merging.specs.Automaton.Speaks.{state_more}
 use Rattle.section_frames.specs.Section.{word_at}
 use Rattle.sections.specs.Laid.Words.{at_word}
-use Rattle.merging.specs.Chosen.ThreeBits.{word_three, word_binary}
+use Rattle.merging.proofs.Chosen.ThreeBits.{word_three, word_binary}
 use Rattle.sections.specs.RuleHolds.{Running, Ran}
 
 earlier-plus : (n c : ℕ) → earlier n c ≡ n + c

@@ -1,7 +1,6 @@
 -- `sector::field_right` meets its contract: bytes that are too few are not the field, and else the two lists are compared.
 -- Assumes nothing.
 use Rattle.sector.proofs.Compared.{too_short, compared}
-use borrow.Author.Rules.{rules}
 use Rattle.sector.proofs.field_right.Goals as goal
 
 pub returns-then-s-end : goal.returns-then-s-end

@@ -2,7 +2,6 @@
 -- Assumes nothing.
 use Rattle.sector.specs.Layout.{zeros}
 use Rattle.sector.proofs.Compared.{no_filler, whole_filler}
-use borrow.Author.Rules.{rules}
 use Rattle.sector.proofs.filler_right.Goals as goal
 
 pub returns-then-s-ne2352 : goal.returns-then-s-ne2352

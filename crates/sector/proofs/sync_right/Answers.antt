@@ -1,6 +1,5 @@
 -- `sector::sync_right` meets its contract: the field is Sync.
 -- Assumes nothing.
-use borrow.Author.Rules.{rules}
 use Rattle.sector.proofs.Compared.{sync-first}
 use Rattle.sector.proofs.sync_right.Goals as goal
 

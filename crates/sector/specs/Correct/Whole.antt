@@ -4,7 +4,7 @@ use Rattle.std.specs.Prelude.{◌≡◌, ◌⊎◌, List, ℕ, ◌<◌, ◌≤�
 use Rattle.std.proofs.Common.{sym, ap, ◌∙◌, inl, inr, arith, ext_get_or, get_or-take}
 use Rattle.outcome.specs.First.Found.{lt-or-le}
 use Rattle.rspc.specs.Words.{SameCovered, SameQParity}
-use Rattle.rspc.specs.Words.Parity.{q_one}
+use Rattle.rspc.proofs.Words.Parity.{q_one}
 use Rattle.sector.specs.Correct.{CorrectMode01}
 
 -- Sync, the covered bytes and the Q parity are all there is

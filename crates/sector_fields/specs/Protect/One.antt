@@ -9,7 +9,7 @@ use Rattle.lists.specs.Agree.{same-front, same-take, same-between}
 use Rattle.edc.specs.Edc.{Divisible, edc}
 use Rattle.edc.specs.Edc.Right.{edc-one}
 use Rattle.rspc.specs.Words.{SameCovered}
-use Rattle.rspc.specs.Words.Parity.{p_one, q_one}
+use Rattle.rspc.proofs.Words.Parity.{p_one, q_one}
 use Rattle.sector.specs.Layout.{bytes_from}
 use Rattle.sector.specs.Correct.Whole.{whole}
 use Rattle.sector_fields.specs.Protect.{Protects}

@@ -1,11 +1,10 @@
 -- `handed_out` meets its contract: after `i` turns the first `i` bytes are those of the sequence, and the register is 8 i steps on.
 -- Assumes nothing.
-use Prim.Native.Nat.{ℕ, ◌+◌, ◌*◌, ◌-◌, ◌≤◌}
+use Prim.Native.Nat.{ℕ, ◌+◌, ◌*◌}
 use mathlib.Core.Path.{◌≡◌, sym, ap, ◌∙◌}
 use native.Mathlib.Omega.{arith}
-use borrow.Author.Rules.{rules}
 use lib.ListN.{replicate}
-use Rattle.outcome.specs.Buffer.{grown, Filling}
+use Rattle.outcome.specs.Buffer.{grown}
 use Rattle.outcome.specs.Buffer.Filled.{filling-none, filling_more}
 use Rattle.sequence.specs.Sequence.{register, byte_of, sequence}
 use Rattle.sequence.specs.Sequence.Follows.{length-sequence, sequence-at}

@@ -1,14 +1,9 @@
 -- `handed_out` meets its contract: after `i` turns the first `i` bytes are those of the sequence, and the register is 8 i steps on.
 -- Assumes nothing.
-use Prim.Native.Nat.{ℕ, ◌+◌, ◌*◌, ◌-◌, ◌≤◌}
-use mathlib.Core.Path.{◌≡◌, sym, ap, ◌∙◌}
-use native.Mathlib.Omega.{arith}
-use borrow.Author.Rules.{rules}
-use lib.ListN.{replicate}
-use Rattle.outcome.specs.Buffer.{grown, Filling}
-use Rattle.outcome.specs.Buffer.Filled.{filling-none, filling_more}
+use Prim.Native.Nat.{◌*◌, ◌-◌, ◌≤◌}
+use mathlib.Core.Path.{◌≡◌}
+use Rattle.outcome.specs.Buffer.{Filling}
 use Rattle.sequence.specs.Sequence.{register, byte_of, sequence}
-use Rattle.sequence.specs.Sequence.Follows.{length-sequence, sequence-at}
 use Rattle.sequence.proofs.handed_out.Given as goal
 
 abbrev pub invariant-loop-i : goal.invariant-loop-i

@@ -1,12 +1,10 @@
 -- `worked_out` meets its contract: after n turns the first n + 15 bytes are those of the sequence (`Working`).
 -- Assumes nothing.
-use Prim.Native.Nat.{◌-◌}
 use mathlib.Core.Path.{sym}
 use native.Mathlib.Omega.{arith}
-use borrow.Author.Rules.{rules}
 use Rattle.outcome.specs.Buffer.Filled.{filling_all}
 use Rattle.sequence.specs.Sequence.Follows.{length-sequence}
-use Rattle.sequence.proofs.Working.{Worked, worked_more}
+use Rattle.sequence.proofs.Working.{worked_more}
 use Rattle.sequence.proofs.worked_out.Goals as goal
 
 pub loop-n-init : goal.loop-n-init

@@ -1,12 +1,7 @@
 -- `worked_out` meets its contract: after n turns the first n + 15 bytes are those of the sequence (`Working`).
 -- Assumes nothing.
 use Prim.Native.Nat.{◌-◌}
-use mathlib.Core.Path.{sym}
-use native.Mathlib.Omega.{arith}
-use borrow.Author.Rules.{rules}
-use Rattle.outcome.specs.Buffer.Filled.{filling_all}
-use Rattle.sequence.specs.Sequence.Follows.{length-sequence}
-use Rattle.sequence.proofs.Working.{Worked, worked_more}
+use Rattle.sequence.proofs.Working.{Worked}
 use Rattle.sequence.proofs.worked_out.Given as goal
 
 abbrev pub invariant-loop-n : goal.invariant-loop-n

@@ -1,7 +1,6 @@
 -- `judge_sections` meets its contract: each way out is a law of `Passes`.
 -- Assumes nothing.
 use Rattle.stream_judge.proofs.Passes.{says_odd, says_none, says_many, says_done, says-offence, says_word}
-use borrow.Author.Rules.{rules}
 use Rattle.stream_judge.proofs.judge_sections.Goals as goal
 
 pub returns-then-channel-ne0 : goal.returns-then-channel-ne0

@@ -1,7 +1,6 @@
 -- `stream_windows::is_triple_calm` meets its contract: each way out is a law of `Tests`.
 -- Assumes nothing.
 use Rattle.stream_windows.proofs.Tests.{first_lost, first-stands, middle_lost, middle_stands, other-calm}
-use borrow.Author.Rules.{rules}
 use Rattle.stream_windows.proofs.is_triple_calm.Goals as goal
 
 pub returns-then-w-ne8392706 : goal.returns-then-w-ne8392706

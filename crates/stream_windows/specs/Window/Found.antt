@@ -10,7 +10,7 @@ use Rattle.std.proofs.Math.ListN.{length}
 use Rattle.outcome.specs.First.Found.{lt-or-le, found_first}
 use Rattle.outcome.specs.Say.{done, refused}
 use Rattle.bits.specs.Bits.{unpack}
-use Rattle.bits.specs.Bits.Packed.{length-unpack}
+use Rattle.bits.proofs.Bits.Packed.{length-unpack}
 use Rattle.stream_rules.specs.Offences.{judged, run_offends, header_offends, word_offends}
 use Rattle.stream_rules.specs.Offences.Behind.{run-behind, header_behind, word_behind}
 use Rattle.stream_rules.specs.Offences.Stream.{binary_judged, length-judged}

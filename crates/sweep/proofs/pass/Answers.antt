@@ -1,7 +1,7 @@
 -- `sweep::pass` meets its contract. The loop's invariant: s0 and s1 are the sums of the columns of the rows passed (`Sweeping`).
 -- Assumes nothing.
 use mathlib.Core.Path.{◌≡◌, sym, ap, ◌∙◌}
-use Prim.Native.Nat.{ℕ, ◌-◌}
+use Prim.Native.Nat.{ℕ}
 use native.Mathlib.Omega.{arith}
 use lib.ListN.{length}
 use Rattle.sweep.specs.Columns.{all_sums}
@@ -49,7 +49,9 @@ shape_of-s1 c =
 pub returns : goal.returns
 returns c =
     let rows = c.args.rows.now in
-    let all = sweeping_all c.loop-at.invariant c.loop-at-test.false in
-    (all.0 ∙ ap (λ (w : ℕ). all_sums 0 w rows) (let cleared_long : length c.clear.new.out
-    ≡ length c.args.s0.now = c.clear.auto.out in cleared_long), all.1 ∙ ap (λ (w : ℕ). all_sums 1 w rows) (let cleared_long : length c.clear.new.out
-    ≡ length c.args.s0.now = c.clear.auto.out in cleared_long))
+    let all = sweeping_all c.loop-at.invariant c.loop-at-test.false in (
+      all.0 ∙ ap (λ (w : ℕ). all_sums 0 w rows) (let cleared_long : length c.clear.new.out
+          ≡ length c.args.s0.now = c.clear.auto.out in cleared_long),
+      all.1 ∙ ap (λ (w : ℕ). all_sums 1 w rows) (let cleared_long : length c.clear.new.out
+          ≡ length c.args.s0.now = c.clear.auto.out in cleared_long),
+    )

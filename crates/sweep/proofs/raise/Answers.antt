@@ -1,6 +1,6 @@
 -- `sweep::raise` meets its contract: the loop fills `to` with the list `risen` (`Fill`), and a place that is not written yet is as it was.
 -- Assumes nothing.
-use Prim.Native.Nat.{ℕ, ◌-◌, ◌<◌}
+use Prim.Native.Nat.{ℕ, ◌<◌}
 use mathlib.Core.Path.{◌≡◌, sym, ap, ◌∙◌}
 use native.Mathlib.Nat.{le_refl}
 use native.Mathlib.Omega.{arith}

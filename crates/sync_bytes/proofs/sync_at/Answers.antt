@@ -4,7 +4,6 @@ use mathlib.Core.Path.{sym}
 use native.Mathlib.Omega.{arith}
 use Rattle.sync_bytes.proofs.Twelve.{compared}
 use Rattle.sync_bytes.specs.SyncAt.TooFew.{too_few}
-use borrow.Author.Rules.{rules}
 use Rattle.sync_bytes.proofs.sync_at.Goals as goal
 
 pub returns-then-frames-p : goal.returns-then-frames-p

@@ -2,7 +2,7 @@
 -- Assumes nothing.
 use Rattle.std.specs.Prelude.{◌≡◌, false, List, ℕ, ◌+◌, ◌<◌, length, take, drop}
 use Rattle.std.proofs.Common.{arith, length-take, length-drop}
-use Rattle.lists.specs.Same.Equal.{unlike_lengths}
+use Rattle.lists.proofs.Same.Equal.{unlike_lengths}
 use Rattle.sector.specs.Layout.{sync}
 use Rattle.pair_exchange.specs.Exchange.{exchanged}
 use Rattle.sync_bytes.specs.SyncAt.{sync_at}

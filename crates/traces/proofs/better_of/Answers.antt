@@ -1,6 +1,6 @@
 -- `traces::better_of` meets its contract, by its tests.
 -- Assumes nothing.
-use Rattle.std.proofs.Common.{rules, le-ltb, lt-ltb, eq-eqb, ne_eqb}
+use Rattle.std.proofs.Common.{le-ltb, lt-ltb, eq-eqb, ne_eqb}
 use Rattle.traces.specs.Better.{better_of}
 use Rattle.traces.proofs.better_of.Goals as goal
 

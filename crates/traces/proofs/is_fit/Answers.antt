@@ -1,6 +1,6 @@
 -- `traces::is_fit` meets its contract, by its test.
 -- Assumes nothing.
-use Rattle.std.proofs.Common.{rules, le-ltb, lt-ltb}
+use Rattle.std.proofs.Common.{le-ltb, lt-ltb}
 use Rattle.traces.specs.Traces.{fits}
 use Rattle.traces.proofs.is_fit.Goals as goal
 

@@ -1,6 +1,6 @@
 -- `traces::spend` meets its contract: `spent` goes by the same tests.
 -- Assumes nothing.
-use Rattle.std.proofs.Common.{rules, eq-eqb, ne_eqb}
+use Rattle.std.proofs.Common.{eq-eqb, ne_eqb}
 use Rattle.traces.specs.Strokes.{spent}
 use Rattle.traces.proofs.spend.Goals as goal
 

@@ -5,7 +5,6 @@ use native.Mathlib.Omega.{arith}
 use lib.Seq.{length-take-le}
 use Rattle.rspc.specs.Place.One.{of_other}
 use Rattle.trial.proofs.Steps.{freshened}
-use borrow.Author.Rules.{rules}
 use Rattle.trial.proofs.freshen.Goals as goal
 
 pub returns-then-s-ne2352 : goal.returns-then-s-ne2352

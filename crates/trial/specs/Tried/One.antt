@@ -3,7 +3,7 @@
 use Rattle.std.specs.Prelude.{◌≡◌, List, ℕ}
 use Rattle.std.proofs.Common.{sym, ◌∙◌}
 use Rattle.rspc.specs.Words.{SameCovered}
-use Rattle.rspc.specs.Words.Parity.{q_one}
+use Rattle.rspc.proofs.Words.Parity.{q_one}
 use Rattle.sector.specs.Correct.{CorrectMode01}
 use Rattle.sector.specs.Correct.Whole.{whole}
 use Rattle.trial.specs.Tried.{Tried}

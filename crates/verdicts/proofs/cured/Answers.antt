@@ -1,7 +1,6 @@
 -- `verdicts::cured` meets its contract: each arm is a case of `cure`, and the place of a fault lies inside the word by what is
 -- required.
 -- Assumes nothing.
-use borrow.Author.Rules.{rules}
 use mathlib.Core.Path.{sym, ap}
 use Rattle.codeword.specs.Fault.{cure}
 use Rattle.verdicts.proofs.cured.Goals as goal

@@ -1,7 +1,6 @@
 -- `verdicts::verdict_of_two` meets its contract: `verdict-found` joins the sums, their fault and its cure; a fault lies inside the
 -- word by `fault_inside`.
 -- Assumes nothing.
-use borrow.Author.Rules.{rules}
 use mathlib.Core.Path.{sym, ◌∙◌}
 use native.Mathlib.Omega.{arith}
 use Rattle.codeword.specs.Fault.Decides.{fault_inside}

@@ -2,11 +2,9 @@
 -- Assumes nothing.
 use mathlib.Core.Path.{◌≡◌, sym}
 use mathlib.Core.List.{List}
-use Prim.Native.Nat.{ℕ, ◌+◌, ◌-◌, ◌≤◌, ◌<◌}
+use Prim.Native.Nat.{ℕ, ◌+◌, ◌≤◌, ◌<◌}
 use native.Mathlib.Omega.{arith}
-use borrow.Author.Rules.{rules}
 use lib.ListN.{length, replicate, length-replicate, get_or-replicate, set}
-use Rattle.outcome.specs.Buffer.{Filling}
 use Rattle.outcome.specs.Buffer.Filled.{filling-none, filling_long, filling_more, filling_all}
 use Rattle.word_marks.proofs.lose_frame.Invariants.{Fours}
 use Rattle.word_marks.proofs.lose_frame.Goals as goal

@@ -1,7 +1,6 @@
 -- `word_marks::read_word` meets its contract: what is looked up is a byte or is unknown.
 -- Assumes nothing.
 use mathlib.Core.Path.{refl, sym, ◌∙◌}
-use borrow.Author.Rules.{rules}
 use Rattle.word_marks.proofs.read_word.Goals as goal
 
 pub returns-in_default : goal.returns-in_default

@@ -3,12 +3,11 @@
 use mathlib.Core.Path.{◌≡◌, refl, ap, ◌∙◌}
 use Prim.Native.Nat.{ℕ, ◌<◌}
 use native.Mathlib.Omega.{arith}
-use borrow.Author.Rules.{rules}
 use lib.Bits.{bit_xor}
 use lib.ListN.{get_or, set}
 use Rattle.codeword.specs.declared.Fault.TheVariants.{Clean, At, Lost}
 use Rattle.rspc.specs.Either.{rows_of, place_of}
-use Rattle.rspc.specs.Either.Bytewise.{rows-le}
+use Rattle.rspc.proofs.Either.Bytewise.{rows-le}
 use Rattle.rspc.specs.Columns.{in_column}
 use Rattle.word_mending.proofs.Faults.{set-behind, fault-row, mends}
 use Rattle.word_mending.proofs.mend.Goals as goal
@@ -21,9 +20,13 @@ returns-in-Clean c =
 
 pub overflow_cast-i : goal.overflow_cast-i
 overflow_cast-i c =
-    omega (arith, (let row : c.in-At.i < rows_of c.args.parity = let a = c.args in
-    fault-row a.parity a.x a.y c.rows_of.ensures c.fault_of_two-f.ensures c.in-At.i
-    c.in-At.e c.in-At.is in row), rows-le c.args.parity)
+    omega (
+      arith,
+      (let row : c.in-At.i < rows_of c.args.parity = let a = c.args in
+          fault-row a.parity a.x a.y c.rows_of.ensures c.fault_of_two-f.ensures c.in-At.i
+          c.in-At.e c.in-At.is in row),
+      rows-le c.args.parity,
+    )
 
 pub returns-then-s-at : goal.returns-then-s-at
 returns-then-s-at c =

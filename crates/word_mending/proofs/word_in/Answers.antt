@@ -1,6 +1,5 @@
 -- `word_mending::word_in` meets its contract: each arm is a case of `in_column`.
 -- Assumes nothing.
-use borrow.Author.Rules.{rules}
 use Rattle.word_mending.proofs.word_in.Goals as goal
 
 pub returns-in-P : goal.returns-in-P

@@ -1,6 +1,5 @@
 -- `word_parity::parity_from_sums` meets its contract: its two steps are those of `two_solved`.
 -- Assumes nothing.
-use borrow.Author.Rules.{rules}
 use mathlib.Core.Path.{subst}
 use mathlib.Core.List.{[], ◌∷◌}
 use Prim.Native.Nat.{ℕ}

@@ -1,6 +1,5 @@
 -- `word_parity::parity_of_two` meets its contract by `parity_from_sums_lem`, at the sums that `two_sums` gives.
 -- Assumes nothing.
-use borrow.Author.Rules.{rules}
 use mathlib.Core.Path.{subst}
 use mathlib.Core.List.{List, [], ◌∷◌}
 use Prim.Native.Nat.{ℕ}

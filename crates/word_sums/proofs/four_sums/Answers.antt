@@ -3,11 +3,9 @@
 use borrow.Author.Rules.{rules}
 use mathlib.Core.Path.{◌≡◌, sym, ◌∙◌}
 use mathlib.Core.List.{[], ◌∷◌}
-use Prim.Native.Nat.{ℕ, ◌≤◌, ◌-◌}
-use lib.ListN.{length, take}
+use Prim.Native.Nat.{ℕ}
 use Rattle.outcome.specs.Bytes.{Bytes}
 use Rattle.field.specs.Field.{times_alpha, power}
-use Rattle.codeword.specs.Code.{sum}
 use Rattle.codeword.specs.Code.Sums.{sum-none, sum_step, sum_all, times_0}
 use Rattle.word_sums.proofs.four_sums.Goals as goal
 

@@ -1,14 +1,9 @@
 -- `word_sums::four_sums` meets its contract. After i bytes, s0 to s3 are the sums of those bytes; `sum_step` takes each one byte on.
 -- Assumes nothing.
-use borrow.Author.Rules.{rules}
-use mathlib.Core.Path.{◌≡◌, sym, ◌∙◌}
-use mathlib.Core.List.{[], ◌∷◌}
-use Prim.Native.Nat.{ℕ, ◌≤◌, ◌-◌}
+use mathlib.Core.Path.{◌≡◌}
+use Prim.Native.Nat.{◌≤◌, ◌-◌}
 use lib.ListN.{length, take}
-use Rattle.outcome.specs.Bytes.{Bytes}
-use Rattle.field.specs.Field.{times_alpha, power}
 use Rattle.codeword.specs.Code.{sum}
-use Rattle.codeword.specs.Code.Sums.{sum-none, sum_step, sum_all, times_0}
 use Rattle.word_sums.proofs.four_sums.Given as goal
 
 abbrev pub invariant-loop-i : goal.invariant-loop-i

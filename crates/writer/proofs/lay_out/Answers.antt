@@ -2,11 +2,10 @@
 -- Assumes nothing.
 use mathlib.Core.Path.{sym, ap, ◌∙◌}
 use native.Mathlib.Omega.{arith}
-use borrow.Author.Rules.{rules}
 use lib.ListN.{length}
 use lib.Seq.{length-take-le}
 use Rattle.sector.specs.Layout.Zeros.{length-zeros}
-use Rattle.writer.proofs.LayOut.{laid_out, first_copied, user_fits, user_copied}
+use Rattle.writer.proofs.LayOut.{laid_out, first_copied, user_copied}
 use Rattle.writer.proofs.lay_out.Goals as goal
 
 pub slice_bounds-copy-end-2 : goal.slice_bounds-copy-end-2

@@ -1,6 +1,5 @@
 -- `writer::make` meets its contract: each mode is a law of `Make`.
 -- Assumes nothing.
-use borrow.Author.Rules.{rules}
 use Rattle.writer.proofs.Making.{has_room, makes_plain, makes_mode01}
 use Rattle.writer.proofs.make.Goals as goal
 

@@ -1,8 +1,6 @@
 -- `writer::write` meets its contract: each way out is a law of `WaysOut`.
 -- Assumes nothing.
 use mathlib.Core.Path.{sym, ◌∙◌}
-use borrow.Author.Rules.{rules}
-use borrow.Author.Tests.{not-false}
 use Rattle.writer.proofs.WaysOut.{ways, on_done}
 use Rattle.std.proofs.Common.{ap, not}
 use Rattle.writer.proofs.write.Goals as goal

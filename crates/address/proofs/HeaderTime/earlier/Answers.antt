@@ -1,7 +1,6 @@
 -- `address::HeaderTime::earlier` meets its contract: it compares how many come before the two.
 -- Assumes nothing.
 use mathlib.Core.Path.{ap₂}
-use borrow.Author.Rules.{rules}
 use lib.Dec.{ltb}
 use Rattle.address.proofs.HeaderTime.earlier.Goals as goal
 

@@ -1,6 +1,5 @@
 -- `address::HeaderTime::in_lead_in` meets its contract: a minute below (A0) is none of the Lead-in Area, and from there on the digits decide.
 -- Assumes nothing.
-use borrow.Author.Rules.{rules}
 use borrow.Author.Tests.{le-leb, lt-leb}
 use Rattle.address.specs.Address.{in_lead_in}
 use Rattle.address.proofs.HeaderTime.in_lead_in.Goals as goal

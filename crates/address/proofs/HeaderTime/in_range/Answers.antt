@@ -1,8 +1,6 @@
 -- `address::HeaderTime::in_range` meets its contract: each way out has the answers for the bytes before it.
 -- Assumes nothing.
 use mathlib.Core.Path.{sym, ◌∙◌}
-use borrow.Author.Rules.{rules}
-use borrow.Author.Tests.{not-true, not-false}
 use Rattle.address.specs.Address.{in_range}
 use Rattle.address.proofs.HeaderTime.in_range.Goals as goal
 

@@ -1,7 +1,6 @@
 -- `address::HeaderTime::minute_right` meets its contract: a minute is of the one area, or the other decides.
 -- Assumes nothing.
 use mathlib.Core.Path.{sym, ◌∙◌}
-use borrow.Author.Rules.{rules}
 use Rattle.address.proofs.HeaderTime.minute_right.Goals as goal
 
 pub returns-then-in_user_data_or_lead_out : goal.returns-then-in_user_data_or_lead_out

@@ -1,9 +1,7 @@
 -- `address::HeaderTime::minutes_before` meets its contract: it goes by the same test as the definition.
 -- Assumes nothing.
 use mathlib.Core.Path.{sym, ◌∙◌}
-use Prim.Native.Nat.{◌-◌}
 use native.Mathlib.Omega.{arith}
-use borrow.Author.Rules.{rules}
 use Rattle.address.specs.Order.{minutes_before}
 use Rattle.address.specs.Order.One.{lead_in}
 use Rattle.address.proofs.HeaderTime.minutes_before.Goals as goal

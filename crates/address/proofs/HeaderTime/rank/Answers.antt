@@ -1,7 +1,6 @@
 -- `address::HeaderTime::rank` meets its contract: the sum of the definition, of numbers that fit.
 -- Assumes nothing.
 use native.Mathlib.Omega.{arith}
-use borrow.Author.Rules.{rules}
 use Rattle.address.specs.Order.{rank}
 use Rattle.address.proofs.HeaderTime.rank.Goals as goal
 

@@ -4,7 +4,6 @@ use mathlib.Core.Path.{ap, ◌∙◌}
 use Rattle.traces.specs.declared.Choice.{Choice}
 use Rattle.traces.specs.Better.{better_of}
 use Rattle.choosing.proofs.WordCandidates.{word_chosen}
-use borrow.Author.Rules.{rules}
 use Rattle.choosing.proofs.word.best.Goals as goal
 
 pub returns : goal.returns

@@ -10,7 +10,6 @@ use Rattle.traces.specs.Traces.{fits}
 use Rattle.traces.specs.Traces.Room.{fits_fit}
 use Rattle.profiles.specs.Profiles.Rows.{row_profile}
 use Rattle.profiles.specs.Profiles.Hold.{profile_fits}
-use borrow.Author.Rules.{rules}
 use Rattle.choosing.proofs.word.choose_word.Goals as goal
 
 pub best-requires : goal.best-requires

@@ -7,7 +7,6 @@ use Rattle.traces.specs.declared.Trace.{Trace}
 use Rattle.choosing.specs.Inner.{WordStands}
 use Rattle.automaton_states.specs.States.{after_word, one_after}
 use Rattle.choosing.proofs.WordCandidates.{one-stands}
-use borrow.Author.Rules.{rules}
 use Rattle.choosing.proofs.word.with_one.Goals as goal
 
 pub returns : goal.returns

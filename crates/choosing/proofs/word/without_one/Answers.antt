@@ -8,7 +8,6 @@ use Rattle.traces.specs.declared.Trace.{Trace}
 use Rattle.choosing.specs.Inner.{WordStands}
 use Rattle.automaton_states.specs.States.{after_word}
 use Rattle.choosing.proofs.WordCandidates.{zeros_stand}
-use borrow.Author.Rules.{rules}
 use Rattle.choosing.proofs.word.without_one.Goals as goal
 
 pub returns : goal.returns

@@ -1,6 +1,5 @@
 -- `put` meets its contract: both elements are written (`two-set`).
 -- Assumes nothing.
-use borrow.Author.Rules.{rules}
 use Rattle.circ_runs.proofs.Lent.{two-set}
 use Rattle.circ_runs.proofs.lending.put.Goals as goal
 

@@ -3,7 +3,7 @@
 use Prim.Native.Nat.{ℕ}
 use mathlib.Core.Path.{refl, sym, ap}
 use Rattle.lines.specs.Delay.{zeros}
-use Rattle.circ.specs.Rings.Known.{writer_holds_lem}
+use Rattle.circ.proofs.Rings.Known.{writer_holds_lem}
 use Rattle.circ_writer.proofs.CircWriter.new.Goals as goal
 
 pub returns : goal.returns

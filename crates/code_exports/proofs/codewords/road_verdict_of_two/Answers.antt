@@ -1,6 +1,5 @@
 -- `road_verdict_of_two` meets its contract: it is the promise of `verdict_of_two`, and `tell` tells the verdict.
 -- Assumes nothing.
-use borrow.Author.Rules.{rules}
 use mathlib.Core.Path.{ap, ◌∙◌}
 use Rattle.code_exports.specs.Verdicts.{told_of}
 use Rattle.code_exports.proofs.codewords.road_verdict_of_two.Goals as goal

@@ -2,7 +2,6 @@
 -- Assumes nothing.
 use mathlib.Core.Path.{sym, ap, ap₂, ◌∙◌}
 use mathlib.Core.List.{◌∷◌}
-use borrow.Author.Rules.{rules}
 use Rattle.code_exports.specs.Verdicts.{told_of}
 use Rattle.code_exports.proofs.codewords.tell.Goals as goal
 

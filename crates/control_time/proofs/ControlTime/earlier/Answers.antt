@@ -1,7 +1,6 @@
 -- `control_time::ControlTime::earlier` meets its contract: it compares the two times.
 -- Assumes nothing.
 use mathlib.Core.Path.{ap₂}
-use borrow.Author.Rules.{rules}
 use lib.Dec.{ltb}
 use Rattle.control_time.proofs.ControlTime.earlier.Goals as goal
 

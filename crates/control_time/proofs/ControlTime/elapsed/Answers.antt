@@ -1,7 +1,6 @@
 -- `control_time::ControlTime::elapsed` meets its contract: the sum of the definition, of numbers that fit.
 -- Assumes nothing.
 use native.Mathlib.Omega.{arith}
-use borrow.Author.Rules.{rules}
 use Rattle.control_time.specs.Elapsed.{elapsed}
 use Rattle.control_time.proofs.ControlTime.elapsed.Goals as goal
 

@@ -1,8 +1,6 @@
 -- `control_time::ControlTime::in_range` meets its contract: each way out has the answers for the fields before it.
 -- Assumes nothing.
 use mathlib.Core.Path.{sym, ◌∙◌}
-use borrow.Author.Rules.{rules}
-use borrow.Author.Tests.{not-true, not-false}
 use Rattle.control_time.specs.Elapsed.{in_range}
 use Rattle.control_time.proofs.ControlTime.in_range.Goals as goal
 

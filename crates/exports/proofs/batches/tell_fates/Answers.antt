@@ -1,8 +1,7 @@
 -- `batches::tell_fates` meets its contract. The invariant: i fates are told (`Telling`).
 -- Assumes nothing.
-use Prim.Native.Nat.{◌≤◌, ◌-◌}
 use borrow.Author.Rules.{rules}
-use Rattle.exports.proofs.Fates.{Telling, telling_none, telling_more, telling_all}
+use Rattle.exports.proofs.Fates.{telling_none, telling_more, telling_all}
 use Rattle.exports.proofs.batches.tell_fates.Goals as goal
 
 pub loop-i-init : goal.loop-i-init

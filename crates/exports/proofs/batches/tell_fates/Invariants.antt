@@ -1,8 +1,7 @@
 -- `batches::tell_fates` meets its contract. The invariant: i fates are told (`Telling`).
 -- Assumes nothing.
 use Prim.Native.Nat.{◌≤◌, ◌-◌}
-use borrow.Author.Rules.{rules}
-use Rattle.exports.proofs.Fates.{Telling, telling_none, telling_more, telling_all}
+use Rattle.exports.proofs.Fates.{Telling}
 use Rattle.exports.proofs.batches.tell_fates.Given as goal
 
 abbrev pub invariant-loop-i : goal.invariant-loop-i

@@ -1,6 +1,5 @@
 -- `data_frames::road_carry` meets its contract: it is the promise of `carry` at the time made of the three bytes (`carried_at`).
 -- Assumes nothing.
-use borrow.Author.Rules.{rules}
 use Rattle.exports.proofs.Times.{carried_at}
 use Rattle.exports.proofs.data_frames.road_carry.Goals as goal
 

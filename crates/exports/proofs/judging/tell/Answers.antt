@@ -1,6 +1,5 @@
 -- `judging::tell` meets its contract: each arm is a case of `say_of`, told.
 -- Assumes nothing.
-use borrow.Author.Rules.{rules}
 use mathlib.Core.Path.{refl}
 use Rattle.exports.proofs.judging.tell.Goals as goal
 

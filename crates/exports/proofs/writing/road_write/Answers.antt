@@ -1,6 +1,5 @@
 -- `writing::road_write` meets its contract: it is the promise of `write` at the time made of the three bytes (`written_at`).
 -- Assumes nothing.
-use borrow.Author.Rules.{rules}
 use Rattle.exports.proofs.Times.{written_at}
 use Rattle.exports.proofs.writing.road_write.Goals as goal
 

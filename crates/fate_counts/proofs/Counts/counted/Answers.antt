@@ -1,7 +1,6 @@
 -- `fate_counts::Counts::counted` meets its contract: each arm changes the two counts that `counted_with` changes in its case.
 -- Assumes nothing.
 use mathlib.Core.Path.{refl, sym, ap, ◌∙◌}
-use borrow.Author.Rules.{rules}
 use Rattle.fate_counts.specs.Counting.{counted_with}
 use Rattle.fate_counts.specs.Counting.Added.{same_counts}
 use Rattle.fate_counts.proofs.Counts.counted.Goals as goal

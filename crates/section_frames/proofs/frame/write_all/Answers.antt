@@ -1,11 +1,9 @@
 -- `section_frames::frame::write_all` meets its contract. The invariant: what is left of the frames leads from here to where the whole Section
 -- leads from the start (`FramesWritten`); a frame that is written is one of them less (`frames_more`).
 -- Assumes nothing.
-use Prim.Native.Nat.{◌-◌}
 use mathlib.Core.Path.{sym, ◌∙◌}
 use native.Mathlib.Omega.{arith}
-use Rattle.section_frames.proofs.FrameLoop.{FramesWritten, frames_none, frame-due, frames_more, frames_all}
-use borrow.Author.Rules.{rules}
+use Rattle.section_frames.proofs.FrameLoop.{frames_none, frame-due, frames_more, frames_all}
 use Rattle.section_frames.proofs.frame.write_all.Goals as goal
 
 pub loop-f-init : goal.loop-f-init

@@ -2,10 +2,7 @@
 -- leads from the start (`FramesWritten`); a frame that is written is one of them less (`frames_more`).
 -- Assumes nothing.
 use Prim.Native.Nat.{◌-◌}
-use mathlib.Core.Path.{sym, ◌∙◌}
-use native.Mathlib.Omega.{arith}
-use Rattle.section_frames.proofs.FrameLoop.{FramesWritten, frames_none, frame-due, frames_more, frames_all}
-use borrow.Author.Rules.{rules}
+use Rattle.section_frames.proofs.FrameLoop.{FramesWritten}
 use Rattle.section_frames.proofs.frame.write_all.Given as goal
 
 abbrev pub invariant-loop-f : goal.invariant-loop-f

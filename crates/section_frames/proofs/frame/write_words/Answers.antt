@@ -1,10 +1,9 @@
 -- `section_frames::frame::write_words` meets its contract. The invariant: the bits of the words before place i are written (`WordsWritten`).
 -- Assumes nothing.
 use mathlib.Core.Path.{◌≡◌, refl}
-use Prim.Native.Nat.{◌-◌}
 use native.Mathlib.Omega.{arith}
 use lib.ListN.{length}
-use Rattle.section_frames.proofs.WordLoop.{WordsWritten, written_none, written_more, written_all}
+use Rattle.section_frames.proofs.WordLoop.{written_none, written_more, written_all}
 use borrow.Author.Rules.{rules}
 use Rattle.section_frames.proofs.frame.write_words.Goals as goal
 

@@ -1,11 +1,7 @@
 -- `section_frames::frame::write_words` meets its contract. The invariant: the bits of the words before place i are written (`WordsWritten`).
 -- Assumes nothing.
-use mathlib.Core.Path.{◌≡◌, refl}
 use Prim.Native.Nat.{◌-◌}
-use native.Mathlib.Omega.{arith}
-use lib.ListN.{length}
-use Rattle.section_frames.proofs.WordLoop.{WordsWritten, written_none, written_more, written_all}
-use borrow.Author.Rules.{rules}
+use Rattle.section_frames.proofs.WordLoop.{WordsWritten}
 use Rattle.section_frames.proofs.frame.write_words.Given as goal
 
 abbrev pub invariant-loop-i : goal.invariant-loop-i

@@ -2,8 +2,7 @@
 -- (`Draining`); each turn moves eight bits from the one to the other (`drain_step`).
 -- Assumes nothing.
 use native.Mathlib.Omega.{arith}
-use borrow.Author.Rules.{rules}
-use Rattle.section_frames.proofs.Draining.{Draining, gathered_small, drain_start, drain_at, drain_unit, drain_unit_pos, drain_step, drain_end}
+use Rattle.section_frames.proofs.Draining.{gathered_small, drain_start, drain_at, drain_unit, drain_unit_pos, drain_step, drain_end}
 use Rattle.section_frames.proofs.pen.put.Goals as goal
 
 pub overflow_mul-held : goal.overflow_mul-held

@@ -1,9 +1,7 @@
 -- `section_frames::pen::put` meets its contract. The invariant: the bytes written and the bits held together are the bits at the start and the new ones
 -- (`Draining`); each turn moves eight bits from the one to the other (`drain_step`).
 -- Assumes nothing.
-use native.Mathlib.Omega.{arith}
-use borrow.Author.Rules.{rules}
-use Rattle.section_frames.proofs.Draining.{Draining, gathered_small, drain_start, drain_at, drain_unit, drain_unit_pos, drain_step, drain_end}
+use Rattle.section_frames.proofs.Draining.{Draining}
 use Rattle.section_frames.proofs.pen.put.Given as goal
 
 abbrev pub invariant-loop-count : goal.invariant-loop-count

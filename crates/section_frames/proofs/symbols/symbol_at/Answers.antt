@@ -3,7 +3,6 @@
 use Prim.Native.Nat.{◌+◌, ◌-◌, ◌*◌}
 use native.Mathlib.Omega.{arith}
 use Rattle.section_frames.proofs.FoundSymbols.{found-sync0, found-sync1, found_control, found_byte}
-use borrow.Author.Rules.{rules}
 use Rattle.section_frames.proofs.symbols.symbol_at.Goals as goal
 
 pub returns-then-f-eq0 : goal.returns-then-f-eq0

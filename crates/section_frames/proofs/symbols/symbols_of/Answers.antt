@@ -1,12 +1,10 @@
 -- `section_frames::symbols::symbols_of` meets its contract. The invariant: the symbols before place i are found (`SymbolsFound`).
 -- Assumes nothing.
-use Prim.Native.Nat.{◌-◌, ◌<◌, ◌≤◌}
+use Prim.Native.Nat.{◌<◌, ◌≤◌}
 use mathlib.Core.Path.{◌≡◌, refl, ◌∙◌}
 use native.Mathlib.Omega.{arith}
 use lib.ListN.{length, length-set}
-use Rattle.section_frames.specs.Inner.FrameSteps.{SymbolsFound}
 use Rattle.section_frames.proofs.FoundSymbols.{found_more}
-use borrow.Author.Rules.{rules}
 use Rattle.section_frames.proofs.symbols.symbols_of.Goals as goal
 
 pub loop-i-init : goal.loop-i-init

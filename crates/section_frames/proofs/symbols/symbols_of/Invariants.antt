@@ -1,12 +1,9 @@
 -- `section_frames::symbols::symbols_of` meets its contract. The invariant: the symbols before place i are found (`SymbolsFound`).
 -- Assumes nothing.
-use Prim.Native.Nat.{◌-◌, ◌<◌, ◌≤◌}
-use mathlib.Core.Path.{◌≡◌, refl, ◌∙◌}
-use native.Mathlib.Omega.{arith}
-use lib.ListN.{length, length-set}
+use Prim.Native.Nat.{◌-◌}
+use mathlib.Core.Path.{◌≡◌}
+use lib.ListN.{length}
 use Rattle.section_frames.specs.Inner.FrameSteps.{SymbolsFound}
-use Rattle.section_frames.proofs.FoundSymbols.{found_more}
-use borrow.Author.Rules.{rules}
 use Rattle.section_frames.proofs.symbols.symbols_of.Given as goal
 
 abbrev pub invariant-loop-i : goal.invariant-loop-i

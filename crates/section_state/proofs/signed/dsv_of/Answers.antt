@@ -7,7 +7,6 @@ use mir.Val.{SFits}
 use mir.ValLaws.{to_z-of_z, to_z_pos}
 use mir.Syntax.{w64}
 use Rattle.section_state.proofs.Signs.{sub-up, sub-down, sub_less}
-use borrow.Author.Rules.{rules}
 use Rattle.section_state.proofs.signed.dsv_of.Goals as goal
 
 pub returns-then-minus-plus : goal.returns-then-minus-plus

@@ -5,7 +5,6 @@ use mir.Syntax.{w64}
 use mir.ValLaws.{to_z-of_z}
 use Rattle.section_state.specs.Carried.{above, below}
 use Rattle.section_state.proofs.Signs.{under_abs, over_abs}
-use borrow.Author.Rules.{rules}
 use Rattle.section_state.proofs.signed.within.Goals as goal
 
 pub returns-then-d-lt0 : goal.returns-then-d-lt0

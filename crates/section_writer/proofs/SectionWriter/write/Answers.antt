@@ -8,7 +8,6 @@ use mir.Val.{SFits}
 use Rattle.section_frames.specs.Frames.{due}
 use Rattle.section_writer.specs.State.{right}
 use Rattle.section_writer.proofs.WaysOut.{wrong_frames, wrong_control, wrong_out, wrong_state, full, all_written, by_refusal, right_is, begins_as, begins-due}
-use borrow.Author.Rules.{rules}
 use Rattle.section_writer.proofs.SectionWriter.write.Goals as goal
 
 pub returns-then-frames-ne3136 : goal.returns-then-frames-ne3136
@@ -27,13 +26,15 @@ returns-then-out-ne7203 c =
     by_refusal c.refuse-then-out-ne7203.result a.self _ _ _ c.refuse-then-out-ne7203.ensures (wrong_out a.self a.frames.now a.control.now a.out.now c.if-frames-ne3136.false c.if-control-ne96.false c.if-out-ne7203.true)
 
 pub advance-next-requires : goal.advance-next-requires
-advance-next-requires c =
-    ((c.write_frames-after.ensures.laid (let frames_due : due c.begin-before.result c.args.frames.now c.args.control.now c.args.out.now ≡ true = let a = c.args in
-    let g = c.struct_told-1.given in
-    let k : SFits w64 a.self.dsv = record { sfits = g.0.1 } in
-    let f : SFits w64 a.self.level = record { sfits = g.1.0.1 } in
-    let r : right a.self ≡ true = right_is a.self k f _ true c.is_possible-possible.ensures c.if-possible.true in
-    begins-due a.self _ a.frames.now a.control.now a.out.now c.if-frames-ne3136.false c.if-control-ne96.false c.if-out-ne7203.false r (begins_as a.self k f _ c.begin-before.ensures) in frames_due)).within, ltb-true _ _ (sym c.has_room-room.ensures ∙ c.if-room.true))
+advance-next-requires c = (
+  (c.write_frames-after.ensures.laid (let frames_due : due c.begin-before.result c.args.frames.now c.args.control.now c.args.out.now ≡ true = let a = c.args in
+      let g = c.struct_told-1.given in
+      let k : SFits w64 a.self.dsv = record { sfits = g.0.1 } in
+      let f : SFits w64 a.self.level = record { sfits = g.1.0.1 } in
+      let r : right a.self ≡ true = right_is a.self k f _ true c.is_possible-possible.ensures c.if-possible.true in
+      begins-due a.self _ a.frames.now a.control.now a.out.now c.if-frames-ne3136.false c.if-control-ne96.false c.if-out-ne7203.false r (begins_as a.self k f _ c.begin-before.ensures) in frames_due)).within,
+  ltb-true _ _ (sym c.has_room-room.ensures ∙ c.if-room.true),
+)
 
 pub returns-then-room : goal.returns-then-room
 returns-then-room c =

@@ -2,7 +2,6 @@
 -- Assumes nothing.
 use Prim.Native.Nat.{ℕ, ◌+◌, ◌*◌, ◌/◌}
 use mathlib.Core.Path.{ap, ◌∙◌}
-use borrow.Author.Rules.{rules}
 use Rattle.sequence.proofs.Shifting.{handed_out, eight_on_lem}
 use Rattle.sequence.proofs.Register.shift.Goals as goal
 

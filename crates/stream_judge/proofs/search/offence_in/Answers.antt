@@ -2,7 +2,6 @@
 -- Assumes nothing.
 use mathlib.Core.Path.{◌∙◌}
 use Rattle.stream_judge.proofs.Tests.{shows}
-use borrow.Author.Rules.{rules}
 use Rattle.stream_judge.proofs.search.offence_in.Goals as goal
 
 pub returns : goal.returns

@@ -1,9 +1,7 @@
 -- `search::search_from` meets its contract: the invariant is that nothing offends before bit p, and v is the window there (`Passing`).
 -- Assumes nothing.
 use Prim.Native.Nat.{◌-◌, ◌*◌}
-use native.Mathlib.Omega.{arith}
-use borrow.Author.Rules.{rules}
-use Rattle.stream_windows.specs.Window.Found.{Passing, passing-start, passing_more, passing-found, passing_all}
+use Rattle.stream_windows.specs.Window.Found.{Passing}
 use Rattle.stream_judge.proofs.search.search_from.Given as goal
 
 abbrev pub invariant-loop-p : goal.invariant-loop-p

@@ -2,7 +2,6 @@
 -- Assumes nothing.
 use mathlib.Core.Path.{◌∙◌}
 use Rattle.offence_tests.specs.Known.Listed.{wrong-listed}
-use borrow.Author.Rules.{rules}
 use Rattle.stream_judge.proofs.search.word_wrong.Goals as goal
 
 pub returns : goal.returns

@@ -3,7 +3,6 @@
 use mathlib.Core.Path.{◌∙◌}
 use native.Mathlib.Omega.{arith}
 use Rattle.judged_bits.specs.Bytes.{field_judged, triple_behind}
-use borrow.Author.Rules.{rules}
 use Rattle.stream_judge.proofs.taken.triple.Goals as goal
 
 pub returns-then-t-channel : goal.returns-then-t-channel

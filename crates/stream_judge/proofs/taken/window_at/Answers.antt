@@ -1,9 +1,7 @@
 -- `taken::window_at` meets its contract: the invariant is that v has the first k bits of the window (`Growing`).
 -- Assumes nothing.
-use Prim.Native.Nat.{◌-◌}
 use native.Mathlib.Omega.{arith}
-use borrow.Author.Rules.{rules}
-use Rattle.stream_judge.proofs.Passes.{Growing, growing_start, growing_small, growing_more, growing_done}
+use Rattle.stream_judge.proofs.Passes.{growing_start, growing_small, growing_more, growing_done}
 use Rattle.stream_judge.proofs.taken.window_at.Goals as goal
 
 pub loop-k-init : goal.loop-k-init

@@ -2,13 +2,9 @@
 -- Assumes nothing.
 use mathlib.Core.Path.{◌∙◌}
 use mathlib.Core.Bool.{false≢true}
-use Prim.Native.Nat.{◌-◌, ◌≤◌}
 use native.Mathlib.Omega.{arith}
-use borrow.Author.Rules.{rules}
-use borrow.Author.Tests.{not-false}
 use Rattle.judged_bits.specs.Bytes.{field_judged}
 use Rattle.offence_tests.specs.Known.Listed.{right-listed}
-use Rattle.stream_judge.specs.Inner.{WordsRight}
 use Rattle.stream_judge.proofs.Passes.{words_more}
 use Rattle.stream_judge.proofs.words_listed.is_frame_right.Goals as goal
 

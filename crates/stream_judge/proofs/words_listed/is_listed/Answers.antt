@@ -1,7 +1,6 @@
 -- `words_listed::is_listed` meets its contract: the guide finds the byte of the word (`listed-none`, `listed-some`).
 -- Assumes nothing.
 use Rattle.stream_judge.proofs.Tests.{listed-none, listed-some}
-use borrow.Author.Rules.{rules}
 use Rattle.stream_judge.proofs.words_listed.is_listed.Goals as goal
 
 pub returns-in_default : goal.returns-in_default

@@ -1,10 +1,7 @@
 -- `words_listed::listed_until` meets its contract: the invariant is that the words of f frames are right (`FramesRight`), so none offends (`frames_clear`).
 -- Assumes nothing.
-use Prim.Native.Nat.{◌-◌, ◌*◌, ◌≤◌}
 use native.Mathlib.Omega.{arith}
-use borrow.Author.Rules.{rules}
-use borrow.Author.Tests.{not-false}
-use Rattle.stream_judge.proofs.Passes.{FramesRight, frames_none, frames_more, frames_clear}
+use Rattle.stream_judge.proofs.Passes.{frames_none, frames_more, frames_clear}
 use Rattle.stream_judge.proofs.words_listed.listed_until.Goals as goal
 
 pub loop-f-init : goal.loop-f-init
@@ -30,9 +27,9 @@ loop-f-smaller c = omega (arith, c.loop-f-test.true)
 
 pub loop-f-preserved : goal.loop-f-preserved
 loop-f-preserved c = (
-      omega (arith, c.loop-f-test.true),
-      frames_more c.args.channel.now _ c.loop-f.invariant.1 (c.is_frame_right-right.ensures (c.if-not-right.false)),
-    )
+  omega (arith, c.loop-f-test.true),
+  frames_more c.args.channel.now _ c.loop-f.invariant.1 (c.is_frame_right-right.ensures (c.if-not-right.false)),
+)
 
 pub overflow_mul-result-2 : goal.overflow_mul-result-2
 overflow_mul-result-2 c = omega (arith, c.requires.2, c.loop-f.invariant.0)

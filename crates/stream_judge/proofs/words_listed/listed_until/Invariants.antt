@@ -1,10 +1,7 @@
 -- `words_listed::listed_until` meets its contract: the invariant is that the words of f frames are right (`FramesRight`), so none offends (`frames_clear`).
 -- Assumes nothing.
 use Prim.Native.Nat.{◌-◌, ◌*◌, ◌≤◌}
-use native.Mathlib.Omega.{arith}
-use borrow.Author.Rules.{rules}
-use borrow.Author.Tests.{not-false}
-use Rattle.stream_judge.proofs.Passes.{FramesRight, frames_none, frames_more, frames_clear}
+use Rattle.stream_judge.proofs.Passes.{FramesRight}
 use Rattle.stream_judge.proofs.words_listed.listed_until.Given as goal
 
 abbrev pub invariant-loop-f : goal.invariant-loop-f

@@ -1,6 +1,5 @@
 -- `text::lines::first_line` meets its contract: the line is one word.
 -- Assumes nothing.
-use borrow.Author.Rules.{rules}
 use Rattle.text.specs.Line.More.{from_empty}
 use Rattle.text.proofs.lines.first_line.Goals as goal
 

@@ -1,6 +1,5 @@
 -- `text::lines::last_line` meets its contract: three words with their numbers and a newline take at most 26 + 30 + 29 + 1 bytes.
 -- Assumes nothing.
-use borrow.Author.Rules.{rules}
 use Rattle.text.specs.Line.More.{and_then, from_empty}
 use Rattle.text.proofs.lines.last_line.Goals as goal
 

@@ -1,6 +1,5 @@
 -- `text::lines::put` meets its contract: the byte takes the place of the first zero after the line (`byte_more`).
 -- Assumes nothing.
-use borrow.Author.Rules.{rules}
 use Rattle.text.specs.Line.More.{byte_more}
 use Rattle.text.proofs.lines.put.Goals as goal
 

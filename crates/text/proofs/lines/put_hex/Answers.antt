@@ -2,7 +2,6 @@
 -- Assumes nothing.
 use mathlib.Core.Path.{◌∙◌}
 use native.Mathlib.Omega.{arith}
-use borrow.Author.Rules.{rules}
 use Rattle.numerals.specs.Numerals.Half.{half_digit}
 use Rattle.numerals.specs.Numerals.{hex}
 use Rattle.text.specs.Line.More.{and_then, same_byte}

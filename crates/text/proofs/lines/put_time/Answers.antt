@@ -1,6 +1,5 @@
 -- `text::lines::put_time` meets its contract: three bytes of two digits each are written one after the other.
 -- Assumes nothing.
-use borrow.Author.Rules.{rules}
 use native.Mathlib.Omega.{arith}
 use Rattle.numerals.specs.Numerals.{hex}
 use Rattle.text.specs.Line.More.{and_then}

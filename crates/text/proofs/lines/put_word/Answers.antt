@@ -1,10 +1,7 @@
 -- `text::lines::put_word` meets its contract. The loop's invariant: of the word the first i bytes are written (`Word`).
 -- Assumes nothing.
-use Prim.Native.Nat.{◌-◌}
 use native.Mathlib.Omega.{arith}
-use borrow.Author.Rules.{rules}
-use lib.ListN.{length}
-use Rattle.text.proofs.Word.{Writing, writing-none, writing_long, writing_more, writing_all}
+use Rattle.text.proofs.Word.{writing-none, writing_long, writing_more, writing_all}
 use Rattle.text.proofs.lines.put_word.Goals as goal
 
 pub loop-i-init : goal.loop-i-init

@@ -1,10 +1,8 @@
 -- `text::lines::put_word` meets its contract. The loop's invariant: of the word the first i bytes are written (`Word`).
 -- Assumes nothing.
 use Prim.Native.Nat.{◌-◌}
-use native.Mathlib.Omega.{arith}
-use borrow.Author.Rules.{rules}
 use lib.ListN.{length}
-use Rattle.text.proofs.Word.{Writing, writing-none, writing_long, writing_more, writing_all}
+use Rattle.text.proofs.Word.{Writing}
 use Rattle.text.proofs.lines.put_word.Given as goal
 
 abbrev pub invariant-loop-i : goal.invariant-loop-i

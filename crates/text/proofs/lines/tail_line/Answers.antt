@@ -1,7 +1,6 @@
 -- `text::lines::tail_line` meets its contract: `tail_line` goes by the same test (`tail_none`, `tail_some`).
 -- Assumes nothing.
 use mathlib.Core.Path.{sym}
-use borrow.Author.Rules.{rules}
 use Rattle.text.specs.Report.Counts.{tail_none, tail_some}
 use Rattle.text.specs.Line.More.{and_then, same_text, from_empty}
 use Rattle.text.proofs.lines.tail_line.Goals as goal

@@ -1,0 +1,3 @@
+-- Laws about what specs/Counts.antt defines.
+pub mod Places
+pub mod Round

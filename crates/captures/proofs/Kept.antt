@@ -1,0 +1,2 @@
+-- Laws about what specs/Kept.antt defines.
+pub mod Back

@@ -1,0 +1,3 @@
+-- Laws about what specs/ChannelFrame.antt defines.
+pub mod Merging
+pub mod Own

@@ -1,0 +1,2 @@
+-- Laws about what specs/Codes.antt defines.
+pub mod Treated

@@ -1,0 +1,3 @@
+-- Laws about what specs/Rings.antt defines.
+pub mod Alike
+pub mod Known

@@ -1,0 +1,2 @@
+-- Laws about what specs/Calls.antt defines.
+pub mod ThereAndBack

@@ -1,0 +1,3 @@
+-- Laws about what specs/Chain.antt defines.
+pub mod Streams
+pub mod Zeros

@@ -1,0 +1,3 @@
+-- Laws about what specs/Delay.antt defines.
+pub mod Lengths
+pub mod Quiet

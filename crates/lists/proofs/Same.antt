@@ -1,0 +1,2 @@
+-- Laws about what specs/Same.antt defines.
+pub mod Equal

@@ -1,0 +1,2 @@
+-- Laws about what specs/Inner.antt defines.
+pub mod Places

@@ -1,0 +1,2 @@
+-- Laws about what specs/Either.antt defines.
+pub mod Bytewise

@@ -1,0 +1,4 @@
+pub mod Either
+pub mod Pass
+pub mod Put
+pub mod Words

@@ -1,0 +1,2 @@
+-- Laws about what specs/Put.antt defines.
+pub mod One

@@ -1,0 +1,2 @@
+-- Laws about what specs/Words.antt defines.
+pub mod Parity

@@ -1,0 +1,3 @@
+-- Laws about what specs/Laid.antt defines.
+pub mod Scratch
+pub mod ThereAndBack

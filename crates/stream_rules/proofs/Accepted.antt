@@ -1,0 +1,2 @@
+-- Laws about what specs/Accepted.antt defines.
+pub mod Exactly

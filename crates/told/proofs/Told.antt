@@ -1,0 +1,3 @@
+-- Laws about what specs/Told.antt defines.
+pub mod One
+pub mod Steps

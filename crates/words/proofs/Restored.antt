@@ -1,0 +1,2 @@
+-- Laws about what specs/Restored.antt defines.
+pub mod Table
