@@ -1,6 +1,7 @@
 -- `alignment::in_row` meets its contract: each way out is a law of `Counted`.
 -- Assumes nothing.
 use native.Mathlib.Omega.{arith}
+use Rattle.std.proofs.Common.{◌/◌, ◌≤◌, rules}
 use Rattle.alignment.specs.Row.Counted.{is_row_lem, not-whole, not-one, too_many, no_size}
 use Rattle.alignment.proofs.in_row.Goals as goal
 
@@ -17,4 +18,6 @@ pub returns-then-n-most : goal.returns-then-n-most
 returns-then-n-most c = search too_many
 
 pub returns : goal.returns
-returns c = is_row_lem _ _ _ c.if-bytes-size-ne0.false (omega arith) c.if-n-most.false
+returns c =
+    let few : c.args.bytes / c.args.size ≤ c.args.most = search rules in
+    is_row_lem _ _ _ c.if-bytes-size-ne0.false (omega arith) few

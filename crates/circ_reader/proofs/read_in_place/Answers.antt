@@ -14,7 +14,7 @@ use Rattle.circ.specs.Steps.{fits_reader}
 use Rattle.circ.specs.Steps.Fits.{frame-wrong, marks_wrong, both_fit}
 use Rattle.circ.specs.Rings.{Rings, rings_at, reader_waits, reader_rings}
 use Rattle.circ.specs.Rings.ByTests.{wrong_incoming, wrong-outgoing, wrong-place, right}
-use Rattle.std.proofs.Common.{not}
+use Rattle.std.proofs.Common.{not, rules}
 use Rattle.circ_reader.proofs.read_in_place.Goals as goal
 
 -- what `refuse` gives, where the answer is known
@@ -55,7 +55,7 @@ unfolding reader_waits waits reader_before_c1 reader_between reader_after_c2
 go-requires c =
     record {
       frame-fits = c.if-frame-ne32.false;
-      marks_fit = c.if-marks-ne32.false;
+      marks_fit = search rules;
       outgoing = c.if-out-ne24.false;
       in_place = sym c.below.ensures ∙ not-false c.below.result (ap not c.if-not-below.false);
     }

@@ -1,6 +1,7 @@
 -- `control::data_allowed` meets its contract: each way out of an arm has the tests that its case of `allowed_data` asks.
 -- Assumes nothing.
 use mathlib.Core.Path.{sym, ◌∙◌}
+use Rattle.std.proofs.Common.{◌≡◌, false, rules}
 use Rattle.control.proofs.data_allowed.Goals as goal
 
 pub returns-then-not-is_track_number : goal.returns-then-not-is_track_number
@@ -36,9 +37,10 @@ returns-in-LeadOut c = rw c.in-LeadOut.is c.both_in_range-in-LeadOut.ensures
 
 pub returns-else-not-item_allowed : goal.returns-else-not-item_allowed
 returns-else-not-item_allowed c =
+    let unset : c.args.flag ≡ false = search rules in
     rw c.in-LeadIn.is
     (simp (
-      c.if-flag.false,
+      unset,
       sym c.item_allowed.ensures ∙ c.if-not-item_allowed.false,
       c.in_range.ensures,
     ))

@@ -4,6 +4,7 @@
 use Prim.Native.Nat.{ℕ, ◌<◌}
 use mathlib.Core.Path.{sym, ap, ◌∙◌}
 use native.Mathlib.Omega.{arith}
+use borrow.Author.Rules.{rules}
 use borrow.Author.Count.{below_more}
 use lib.ListN.{get_or}
 use Rattle.outcome.specs.Bytes.{Bytes}
@@ -57,7 +58,7 @@ loop-n-preserved c =
     let words = c.words_of-words.ensures in (
       omega arith,
       below_more _ n c.loop-n.invariant.1
-          (passes (word_of parity s n) c.loop-m.invariant.1 (rows_of parity) (word_long parity s n) (omega arith) c.if-s0-ne0.false c.if-s1-ne0.false),
+          (passes (word_of parity s n) c.loop-m.invariant.1 (rows_of parity) (word_long parity s n) (omega arith) c.if-s0-ne0.false (search rules)),
     )
 
 pub returns-then-s0-ne0 : goal.returns-then-s0-ne0
