@@ -1,11 +1,10 @@
 -- The product bit by bit: what is summed so far, plus what the bits that are left still give, stays the product.
 -- Assumes nothing.
 use mathlib.Core.Path.{◌≡◌, refl, sym, ap, ◌∙◌}
-use Prim.Native.Nat.{ℕ, zero, suc, ◌-◌, ◌*◌, ◌/◌, ◌%◌, ◌≤◌, ◌<◌}
-use native.Mathlib.Nat.{zero-mul, one-mul}
+use Prim.Native.Nat.{ℕ, zero, suc, ◌-◌, ◌*◌, ◌/◌, ◌%◌, ◌<◌}
 use native.Mathlib.Omega.{arith}
 use lib.Bits.{bit_xor, xor_zero_r}
-use Rattle.xor.specs.Xor.Group.{xor_assoc, bit-lt}
+use Rattle.xor.specs.Xor.Group.{xor_assoc}
 use Rattle.field.specs.Field.{times_alpha, mul_bits, mul}
 use Rattle.field.specs.Field.Powers.{times_alpha-lt}
 
@@ -19,15 +18,6 @@ unfolding mul
 summing_none a b h = record { byte = h; is = refl }
 
 module _ {m n a b s : ℕ} (f : Summing m n a b s) where
-  -- a digit times a byte fits a byte
-  pub summing_fits : b % 2 * a < 256
-  summing_fits = omega (arith, digit-le (b % 2) (bit-lt b), f.byte)
-    where
-      digit-le : (d : ℕ) → d < 2 → d * a ≤ a
-      digit-le zero h = omega (arith, zero-mul a)
-      digit-le (suc zero) h = omega (arith, one-mul a)
-      digit-le (suc (suc d)) h = omega arith
-
   pub summing_more : (t : ℕ) → t ≡ times_alpha a → 0 < n → Summing m (n - 1) t (b / 2) (bit_xor s (b % 2 * a))
   unfolding mul_bits
   summing_more t q h = rw q (record { byte = times_alpha-lt a f.byte; is = go n h f.is })

@@ -88,9 +88,6 @@ module _ {r out new : List ℕ} {f : List SectorFate} {a : Answer} {n : ℕ} (b 
   many : n ≡ sectors_in r
   many = let d = when_done taken in omega (arith, d.some.long)
 
-  pub at_most : (n ≤ 16) × (length new ≡ 2352 * n)
-  at_most = let d = when_done taken in (d.some.sixteen, d.as_long ∙ d.room ∙ d.some.long)
-
   -- more Sectors than can be counted
   pub too_many : {c : Counts} → TooMany c n → Tells c r out new (record { counts = c; stand = Going })
   too_many h =

@@ -3,7 +3,6 @@
 use Prim.Native.Nat.{ℕ}
 use mathlib.Core.Path.{◌≡◌, sym, ap, ap₂, ◌∙◌}
 use mathlib.Core.List.{List}
-use borrow.Author.Tests.{not-true, not-false}
 use Rattle.outcome.specs.Say.{Say}
 use Rattle.circ_reader.specs.declared.ReaderAnswer.{ReaderAnswer}
 use Rattle.circ_reader.specs.Answers.{say_of}
@@ -14,7 +13,7 @@ use Rattle.circ.specs.Steps.{fits_reader}
 use Rattle.circ.specs.Steps.Fits.{frame-wrong, marks_wrong, both_fit}
 use Rattle.circ.specs.Rings.{Rings, rings_at, reader_waits, reader_rings}
 use Rattle.circ.specs.Rings.ByTests.{wrong_incoming, wrong-outgoing, wrong-place, right}
-use Rattle.std.proofs.Common.{not, rules}
+use Rattle.std.proofs.Common.{rules}
 use Rattle.circ_reader.proofs.read_in_place.Goals as goal
 
 -- what `refuse` gives, where the answer is known
@@ -48,7 +47,7 @@ returns-then-not-below c =
     refused_so (reader_rings a.places.now a.store.now) c.refuse-then-not-below.ensures.0
     (wrong-place (waits reader_waits) (fits_reader a.frame.now a.marks.now) 24 _ _ _ (reader_rings a.places.now a.store.now) a.out.now
     (both_fit a.frame.now a.marks.now c.if-frame-ne32.false c.if-marks-ne32.false) c.if-out-ne24.false
-    (sym c.below.ensures ∙ not-true c.below.result (ap not c.if-not-below.true)) _ c.refuse-then-not-below.ensures.1)
+    (sym c.below.ensures ∙ c.if-not-below.true) _ c.refuse-then-not-below.ensures.1)
 
 pub go-requires : goal.go-requires
 unfolding reader_waits waits reader_before_c1 reader_between reader_after_c2
@@ -57,7 +56,7 @@ go-requires c =
       frame-fits = c.if-frame-ne32.false;
       marks_fit = search rules;
       outgoing = c.if-out-ne24.false;
-      in_place = sym c.below.ensures ∙ not-false c.below.result (ap not c.if-not-below.false);
+      in_place = sym c.below.ensures ∙ c.if-not-below.false;
     }
 
 pub returns : goal.returns
@@ -68,6 +67,6 @@ returns c =
     ap (λ (say : Say). step say (reader_rings c.go.new.places c.go.new.store) c.go.new.out) gone.say_is
     ∙ right (waits reader_waits) (fits_reader a.frame.now a.marks.now) 24 _ _ _ (reader_rings a.places.now a.store.now) a.out.now
     (both_fit a.frame.now a.marks.now c.if-frame-ne32.false c.if-marks-ne32.false) c.if-out-ne24.false
-    (sym c.below.ensures ∙ not-false c.below.result (ap not c.if-not-below.false)) _ _
+    (sym c.below.ensures ∙ c.if-not-below.false) _ _
     (ap₂ rings_at gone.places_are gone.line_is)
     gone.out_is
