@@ -6,7 +6,7 @@ ghost use Rattle.address.specs.Address.{in_user_data_or_lead_out, in_lead_in, in
 ghost use Rattle.address.specs.Order.{minutes_before, rank, earlier};
 
 // The three address bytes of a Sector's header: minute, second, frame.
-#[derive(Clone, Copy)]
+#[derive(Clone, Copy, Debug, PartialEq, Eq)]
 pub struct HeaderTime(pub u8, pub u8, pub u8);
 
 impl HeaderTime {
@@ -25,37 +25,26 @@ impl HeaderTime {
     }
 
     // Whether the minute is one of the Lead-in Area, where (A0) is added to it.
+    #[tactic(auto, unfolding(crate::specs::Address::in_lead_in))]
     pub fn in_lead_in(self) -> bool
         ensures { result ≡ in_lead_in self }
     {
-        let minute = self.0;
-        if minute < 0xA0 {
-            return false;
-        }
-        digits::two_digits(minute - 0xA0, 59)
+        self.0 >= 0xA0 && digits::two_digits(self.0 - 0xA0, 59)
     }
 
     // Whether the minute is one of either.
     fn minute_right(self) -> bool
         ensures { result ≡ (in_user_data_or_lead_out self || in_lead_in self) }
     {
-        if self.in_user_data_or_lead_out() {
-            return true;
-        }
-        self.in_lead_in()
+        self.in_user_data_or_lead_out() || self.in_lead_in()
     }
 
     // Whether minute, second and frame are in range (14.2).
+    #[tactic(auto, unfolding(crate::specs::Address::in_range))]
     pub fn in_range(self) -> bool
         ensures { result ≡ in_range self }
     {
-        if !self.minute_right() {
-            return false;
-        }
-        if !digits::two_digits(self.1, 59) {
-            return false;
-        }
-        digits::two_digits(self.2, 74)
+        self.minute_right() && digits::two_digits(self.1, 59) && digits::two_digits(self.2, 74)
     }
 
     // The minutes before that of this address, of the Lead-in Area first.
@@ -78,7 +67,7 @@ impl HeaderTime {
         seconds * 75 + digits::value(self.2)
     }
 
-    // Whether this address lies before the other.
+    // Whether this address lies before the other. It is no `PartialOrd`: of two times that are not in range both may have one rank and yet not be equal.
     pub fn earlier(self, other: HeaderTime) -> bool
         ensures { result ≡ earlier self other }
     {

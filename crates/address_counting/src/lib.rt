@@ -30,10 +30,7 @@ fn left(time: HeaderTime) -> u32
 pub fn fits(time: HeaderTime, count: usize) -> bool
     ensures { result ≡ (in_range time && room count time) }
 {
-    if !time.in_range() {
-        return false;
-    }
-    count <= left(time) as usize
+    time.in_range() && count <= left(time) as usize
 }
 
 // Two decimal digits, and one more.
@@ -51,10 +48,7 @@ fn next_digits(b: u8) -> u8
 fn has_next(time: HeaderTime) -> bool
     ensures { result ≡ has_next time }
 {
-    if !time.in_range() {
-        return false;
-    }
-    time.earlier(last_of(time))
+    time.in_range() && time.earlier(last_of(time))
 }
 
 // The address behind one whose area goes on.
@@ -62,9 +56,7 @@ fn next(time: HeaderTime) -> HeaderTime
     requires { has_next time ≡ true }
     ensures { result ≡ next time }
 {
-    let minute = time.0;
-    let second = time.1;
-    let frame = time.2;
+    let HeaderTime(minute, second, frame) = time;
     if frame != 0x74 {
         return HeaderTime::new(minute, second, next_digits(frame));
     }

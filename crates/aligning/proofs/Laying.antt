@@ -29,23 +29,28 @@ cleared-part : (a e : ℕ) (w z : List ℕ) → a ≤ e → e ≤ length w → z
 unfolding zeros
 cleared-part a e w z h l q = q ∙ ap (λ (m : ℕ). replicate m 0) (length-lent a e w h l)
 
+cleared_front : (e : ℕ) (w z : List ℕ) → e ≤ length w → z ≡ replicate (length (take e w)) 0 → z ≡ zeros e
+unfolding zeros
+cleared_front e w z l q = q ∙ ap (λ (m : ℕ). replicate m 0) (length-take-le e w l)
+
 module _ (n : ℕ) (s old a b z : List ℕ) (r : Bool) where
   -- the buffer when the first part is back, and the second
   abbrev first : List ℕ
-  first = put_mid 0 (4 * n - 0) old a
+  first = put_mid 0 (4 * n) old a
 
   abbrev second : List ℕ
   second = put_mid (4 * n) (4 * n + length s - 4 * n) first b
 
-  pub laid_in : length s % 2352 ≡ 0 → length old ≡ 24 * frames_for n s → a ≡ replicate (length (lent 0 (4 * n) old)) 0
+  pub laid_in : length s % 2352 ≡ 0 → length old ≡ 24 * frames_for n s → a ≡ replicate (length (take (4 * n) old)) 0
       → (r ≡ whole_frames s (lent (4 * n) (4 * n + length s) first)) × (b ≡ cond r (exchanged s) (lent (4 * n) (4 * n + length s) first))
       → z ≡ replicate (length (lent (4 * n + length s) (length second) second)) 0
       → put_mid (4 * n + length s) (length second - (4 * n + length s)) second z ≡ aligned n s
   laid_in w h ea c ez =
       let all-of-it : 4 * n - 0 ≡ 4 * n = omega arith in
-      let is-a : a ≡ zeros (4 * n) = cleared-part 0 (4 * n) old a (omega arith) (omega arith) ea ∙ ap zeros all-of-it in
+      let is-a : a ≡ zeros (4 * n) = cleared_front (4 * n) old a (omega arith) ea in
       let long-a : length a ≡ 4 * n = ap length is-a ∙ length-zeros (4 * n) in
-      let is_first : first ≡ a ++ drop (4 * n) old = part-back 0 (4 * n) old a (omega arith) in
+      let is_first : first ≡ a ++ drop (4 * n) old =
+      ap (λ (k : ℕ). put_mid 0 k old a) (sym all-of-it) ∙ part-back 0 (4 * n) old a (omega arith) in
       let long-first : length first ≡ length old = ap length is_first ∙ length-append a (drop (4 * n) old) ∙ omega (arith, length-drop (4 * n) old) in
       let room : length (lent (4 * n) (4 * n + length s) first) ≡ 4 * n + length s - 4 * n = length-lent (4 * n) (4 * n + length s) first (omega arith) (omega arith) in
       let is_b : b ≡ exchanged s = exchanged-whole s (lent (4 * n) (4 * n + length s) first) r b c (omega arith) (omega arith) in

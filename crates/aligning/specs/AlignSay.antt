@@ -1,14 +1,17 @@
 -- What `align` answers (document 02, §11).
 -- Assumes nothing.
-use Rattle.std.specs.Prelude.{[]}
-use Rattle.outcome.specs.Say.{Say, done, refused}
-use Rattle.aligning.specs.declared.Aligned.{Aligned}
-use Rattle.aligning.specs.declared.Aligned.TheVariants.{Done, WrongIncoming, UnknownPlace, WrongOutgoing}
+use Rattle.std.specs.Prelude.{⊤, [], ℕ, Result}
+use Rattle.outcome.specs.Say.{Say, said_by}
+use Rattle.aligning.specs.declared.AlignError.{AlignError}
+use Rattle.aligning.specs.declared.AlignError.TheVariants.{WrongIncoming, UnknownPlace, WrongOutgoing}
 pub mod One
 
--- the documents' number for each answer
-abbrev pub say_of : Aligned → Say
-say_of Done = done []
-say_of WrongIncoming = refused 1 []
-say_of UnknownPlace = refused 23 []
-say_of WrongOutgoing = refused 2 []
+-- the documents' number of each refusal
+abbrev pub refusal_of : AlignError → ℕ
+refusal_of WrongIncoming = 1
+refusal_of UnknownPlace = 23
+refusal_of WrongOutgoing = 2
+
+-- and of each answer
+abbrev pub say_of : Result ⊤ AlignError → Say
+say_of = said_by (λ w. []) refusal_of

@@ -5,33 +5,45 @@ ghost use Rattle.std.specs.Prelude.{◌≡◌, true, ◌+◌, ◌*◌, ◌/◌, 
 ghost use Rattle.outcome.specs.Say.{outcome};
 ghost use Rattle.alignment.specs.Row.{is_row};
 ghost use Rattle.alignment.specs.Aligned.{frames_for, aligned, aligning};
-ghost use Rattle.aligning.specs.AlignSay.{say_of};
+ghost use Rattle.aligning.specs.AlignSay.{refusal_of, say_of};
 
-// What `align` answers.
-#[derive(Clone, Copy)]
-pub enum Aligned {
-    Done,
+use outcome::Refusal;
+
+// Why no Sectors are aligned.
+#[derive(Clone, Copy, Debug, PartialEq, Eq)]
+pub enum AlignError {
     WrongIncoming,
     UnknownPlace,
     WrongOutgoing,
 }
 
+impl Refusal for AlignError {
+    ghost refusal_of = { refusal_of };
+
+    fn number(self) -> u8 {
+        match self {
+            AlignError::WrongIncoming => 1,
+            AlignError::UnknownPlace => 23,
+            AlignError::WrongOutgoing => 2,
+        }
+    }
+}
+
 // `out` becomes the F1-frames of the Sectors, one after the other, with zero bytes before and behind them.
-pub fn align(sectors: &[u8], n: usize, out: &mut [u8]) -> Aligned
+pub fn align(sectors: &[u8], n: usize, out: &mut [u8]) -> Result<(), AlignError>
     ensures { outcome (say_of result) out.new ≡ aligning sectors.now n out.old }
 {
-    let fits = alignment::in_row(2352, 16, sectors.len());
-    if !fits {
-        return Aligned::WrongIncoming;
+    if !alignment::in_row(2352, 16, sectors.len()) {
+        return Err(AlignError::WrongIncoming);
     }
     if n > 5 {
-        return Aligned::UnknownPlace;
+        return Err(AlignError::UnknownPlace);
     }
     if out.len() != frame_bytes(n, sectors.len()) {
-        return Aligned::WrongOutgoing;
+        return Err(AlignError::WrongOutgoing);
     }
     put_aligned(sectors, n, out);
-    Aligned::Done
+    Ok(())
 }
 
 // The bytes of the frames that so many bytes from byte 4n on fill.
@@ -39,7 +51,7 @@ fn frame_bytes(n: usize, bytes: usize) -> usize
     requires { (n ≤ 5) × (bytes ≤ 37632) }
     ensures { result ≡ 24 * ((4 * n + bytes + 23) / 24) }
 {
-    24 * ((4 * n + bytes + 23) / 24)
+    (4 * n + bytes).next_multiple_of(24)
 }
 
 // The Sectors' pairs are pairs of their frames, since 4n is even: so the Sectors alone are exchanged.
@@ -49,7 +61,7 @@ fn put_aligned(sectors: &[u8], n: usize, out: &mut [u8])
 {
     let start = 4 * n;
     let end = start + sectors.len();
-    outcome::clear(&mut out[0..start]);
+    out[..start].fill(0);
     pair_exchange::exchange_pairs(sectors, &mut out[start..end]);
-    outcome::clear(&mut out[end..]);
+    out[end..].fill(0);
 }

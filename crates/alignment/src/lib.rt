@@ -8,18 +8,9 @@ ghost use Rattle.alignment.specs.Row.{is_row};
 pub fn in_row(size: usize, most: usize, bytes: usize) -> bool
     ensures { result ≡ is_row size most bytes }
 {
-    if size == 0 {
-        return false;
-    }
-    if bytes % size != 0 {
+    if size == 0 || bytes % size != 0 {
         return false;
     }
     let n = bytes / size;
-    if n == 0 {
-        return false;
-    }
-    if n > most {
-        return false;
-    }
-    true
+    0 < n && n <= most
 }

@@ -5,27 +5,20 @@
 ghost use Rattle.std.specs.Prelude.{◌≡◌};
 ghost use Rattle.automaton_states.specs.States.{entered, after_word, after_zeros, header_after_one, header_after_zeros};
 
-// A state is the number of ZEROs since the last ONE, plus 11 where exactly ten stand before that ONE; this one says that the rule is broken.
-const BROKEN: u8 = 22;
+// A state is the number of ZEROs since the last ONE, plus 11 where exactly ten stand before that ONE: 0 to 21. This one says that the rule is
+// broken. It is no `None`, since each state is a byte of the profiles' rows, where 22 stands too: with options, each would first be made of its byte.
+pub const BROKEN: u8 = 22;
 
 // The state after some ZEROs and a ONE, which leads to `ten` if ten ZEROs stand before it, and else to `plain`.
+#[tactic(auto, unfolding(crate::specs::States::entered))]
 pub fn enter(run: u8, zeros: u8, plain: u8, ten: u8) -> u8
     ensures { result ≡ entered run zeros plain ten }
 {
-    let z = (run % 11) as u32 + zeros as u32;
-    if z < 2 {
-        return BROKEN;
+    match (run % 11) as u32 + zeros as u32 {
+        2..=9 => plain,
+        10 if run < 11 => ten,
+        _ => BROKEN,
     }
-    if 10 < z {
-        return BROKEN;
-    }
-    if z == 10 {
-        if run < 11 {
-            return ten;
-        }
-        return BROKEN;
-    }
-    plain
 }
 
 // The state after a word: `lead` ZEROs, and a ONE with the rest of the word, which lead to `ten` or to `plain`.
@@ -42,33 +35,27 @@ pub fn after_word(run: u8, lead: u8, plain: u8, ten: u8) -> u8
 pub fn after_zeros(run: u8) -> u8
     ensures { result ≡ after_zeros run }
 {
-    if BROKEN <= run {
-        return BROKEN;
+    if run < BROKEN && run % 11 < 8 {
+        run + 3
+    } else {
+        BROKEN
     }
-    if run % 11 < 8 {
-        return run + 3;
-    }
-    BROKEN
 }
 
-// The state before a Sync Header's 23rd bit, after 100 and after 000.
+// The state before a Sync Header's 23rd bit, after 100.
 pub fn header_after_one(run: u8) -> u8
     ensures { result ≡ header_after_one run }
 {
-    if run % 11 < 2 {
-        return BROKEN;
+    if run % 11 < 2 || run == 21 {
+        BROKEN
+    } else {
+        21
     }
-    if run == 21 {
-        return BROKEN;
-    }
-    21
 }
 
+// And after 000.
 pub fn header_after_zeros(run: u8) -> u8
     ensures { result ≡ header_after_zeros run }
 {
-    if run % 11 < 7 {
-        return 21;
-    }
-    BROKEN
+    if run % 11 < 7 { 21 } else { BROKEN }
 }

@@ -11,11 +11,9 @@ use lib.Seq.{drop-drop, length-take-le, take_at, drop_at, get_or-set_same, get_o
 use Rattle.outcome.specs.First.Found.{lt-or-le}
 use Rattle.repair.specs.Repair as single
 use Rattle.repair.specs.Repair.{Repairs}
-use Rattle.repair.specs.declared.Repaired.{Repaired}
-use Rattle.batch.specs.declared.SectorFate.{SectorFate}
 use Rattle.batch.specs.Sectors.{Sectors, sector_at}
 use Rattle.batch.specs.Sectors.Apart.{sector_before}
-use Rattle.batch.specs.Batch.{no_sector, fate_at, say_at, Taken}
+use Rattle.batch.specs.Batch.{SectorFate, no_sector, fate_at, say_at, Taken}
 use Rattle.batch.specs.Batch.Fates.{no_fate}
 
 -- i of n Sectors are repaired, and the rest of the buffer is as it was
@@ -67,10 +65,10 @@ module _ {n : ℕ} {r old : List ℕ} {i : ℕ} {fates : List SectorFate} {out :
       }
 
   -- one more is repaired
-  module _ (h : i < n) (q : Repaired) (part : List ℕ) (answer : Repairs (lent i r) (lent i out) (single.say_of q) part)
+  module _ (h : i < n) (q : SectorFate) (part : List ℕ) (answer : Repairs (lent i r) (lent i out) (single.say_of q) part)
       (long : length part ≡ length (lent i out)) where
     abbrev after : List SectorFate
-    after = set fates i (record { repaired = q })
+    after = set fates i (q)
 
     ends : 2352 * i + 2352 ≤ length out
     ends = omega (arith, repairing_long)
@@ -97,7 +95,7 @@ module _ {n : ℕ} {r old : List ℕ} {i : ℕ} {fates : List SectorFate} {out :
 
     this : Repairs (sector_at i r) (sector_at i old) (say_at i after) (sector_at i (back i out part))
     this =
-        rw (here, get_or-set_same fates i (record { repaired = q }) no_sector (omega (arith, g.sixteen, some.0.sixteen)), ← lent_is i r, ← g.rest, ← lent_is i out) answer
+        rw (here, get_or-set_same fates i (q) no_sector (omega (arith, g.sixteen, some.0.sixteen)), ← lent_is i r, ← g.rest, ← lent_is i out) answer
 
     pub repairing_more : Repairing n r old (i + 1) after (back i out part)
     repairing_more =
@@ -105,13 +103,13 @@ module _ {n : ℕ} {r old : List ℕ} {i : ℕ} {fates : List SectorFate} {out :
           upto = omega arith;
           as_long = same_len_mid (2352 * i) (2352 * i + 2352 - 2352 * i) out part long ∙ g.as_long;
           each = λ k l. each k (lt-or-le k i) l;
-          past = λ k l. get_or-set_other fates i k (record { repaired = q }) no_sector (λ e. omega arith) ∙ g.past k (omega arith);
-          sixteen = length-set fates i (record { repaired = q }) ∙ g.sixteen;
+          past = λ k l. get_or-set_other fates i k (q) no_sector (λ e. omega arith) ∙ g.past k (omega arith);
+          sixteen = length-set fates i (q) ∙ g.sixteen;
           rest = behind;
         }
       where
         each : (k : ℕ) → (k < i) ⊎ (i ≤ k) → k < i + 1 → Repairs (sector_at k r) (sector_at k old) (say_at k after) (sector_at k (back i out part))
         each k (inl b) l =
-            rw (get_or-set_other fates i k (record { repaired = q }) no_sector (λ e. omega arith), sector_before k i (back i out part) out b front)
+            rw (get_or-set_other fates i k (q) no_sector (λ e. omega arith), sector_before k i (back i out part) out b front)
             (g.each k b)
         each k (inr b) l = let e : i ≡ k = omega arith in subst (λ (j : ℕ). Repairs (sector_at j r) (sector_at j old) (say_at j after) (sector_at j (back i out part))) e this

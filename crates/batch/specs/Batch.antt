@@ -1,13 +1,13 @@
 -- What repair of 1 to 16 Sectors in one call answers and hands out (document 02, §2).
 -- Assumes nothing.
-use Rattle.std.specs.Prelude.{◌≡◌, List, [], ◌∷◌, ℕ, ◌<◌, ◌≤◌, length, get_or, replicate}
-use Rattle.outcome.specs.Say.{Say, done, refused}
+use Rattle.std.specs.Prelude.{◌≡◌, List, [], ◌∷◌, ℕ, Result, Err, ◌<◌, ◌≤◌, length, get_or, replicate}
+use Rattle.outcome.specs.Say.{Say, done, refused, said_by}
 use Rattle.repair.specs.Repair as single
 use Rattle.repair.specs.Repair.{Repairs}
-use Rattle.repair.specs.declared.Repaired.TheVariants as repaired
-use Rattle.batch.specs.declared.SectorFate.{SectorFate}
-use Rattle.batch.specs.declared.Answer.{Answer}
-use Rattle.batch.specs.declared.Answer.TheVariants.{Done, WrongIncoming, WrongOutgoing}
+use Rattle.repair.specs.declared.RepairError.{RepairError}
+use Rattle.repair.specs.declared.RepairError.TheVariants as repaired
+use Rattle.batch.specs.declared.BatchError.{BatchError}
+use Rattle.batch.specs.declared.BatchError.TheVariants.{WrongIncoming, WrongOutgoing}
 use Rattle.batch.specs.Sectors.{Sectors, sector_at}
 pub mod One
 pub mod Fates
@@ -15,16 +15,20 @@ pub mod Alone
 pub mod Split
 pub mod Singly
 
+-- what becomes of one Sector: what a single repair answers
+abbrev pub SectorFate : Type 0
+SectorFate = Result ℕ RepairError
+
 -- the fate of no Sector: it is refused as what has the wrong length is
 abbrev pub no_sector : SectorFate
-no_sector = record { repaired = repaired.WrongIncoming }
+no_sector = Err repaired.WrongIncoming
 
 abbrev pub fate_at : ℕ → List SectorFate → SectorFate
 fate_at i fates = get_or fates i no_sector
 
 -- what a single repair says of Sector i
 abbrev pub say_at : ℕ → List SectorFate → Say
-say_at i fates = single.say_of (fate_at i fates).repaired
+say_at i fates = single.say_of (fate_at i fates)
 
 -- A batch of n Sectors that is done: fate i, and Sector i of what the buffer then holds, are what repair may give for Sector i of what
 -- came in and what stood in its place. Behind the n fates stand those of no Sector.
@@ -43,8 +47,10 @@ pub data RepairsMany (r old : List ℕ) : Say → List SectorFate → List ℕ �
   wrong-outgoing : {n : ℕ} → Sectors n r → (length old ≡ length r → ⊥) → RepairsMany r old (refused 2 []) (replicate 16 no_sector) old
   taken : {n : ℕ} {fates : List SectorFate} {new : List ℕ} → Taken n r old fates new → RepairsMany r old (done (n ∷ [])) fates new
 
+abbrev pub refusal_of : BatchError → ℕ
+refusal_of WrongIncoming = 1
+refusal_of WrongOutgoing = 2
+
 -- document 02's number and values for each answer
-abbrev pub say_of : Answer → Say
-say_of (Done n) = done (n ∷ [])
-say_of WrongIncoming = refused 1 []
-say_of WrongOutgoing = refused 2 []
+abbrev pub say_of : Result ℕ BatchError → Say
+say_of = said_by (λ n. n ∷ []) refusal_of

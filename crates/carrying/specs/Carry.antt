@@ -1,7 +1,7 @@
 -- What carrying 1 to 16 Data Frames over into Sectors of Mode 01 answers and hands out (document 02, §14).
 -- Assumes nothing.
-use Rattle.std.specs.Prelude.{◌≡◌, List, [], ℕ, ◌*◌, ◌<◌, ◌≤◌, length, take, drop, replicate}
-use Rattle.outcome.specs.Say.{Say, done, refused, demand}
+use Rattle.std.specs.Prelude.{◌≡◌, ⊤, List, [], ℕ, ◌*◌, ◌<◌, ◌≤◌, Result, length, take, drop, replicate}
+use Rattle.outcome.specs.Say.{Say, done, refused, demand, said_by}
 use Rattle.address.specs.declared.HeaderTime.{HeaderTime}
 use Rattle.address.specs.Address.{in_range}
 use Rattle.address_counting.specs.Count.{room, after}
@@ -9,8 +9,8 @@ use Rattle.data_frame.specs.DataFrame.{main_data}
 use Rattle.frame_faults.specs.AllFaults.{all_faults}
 use Rattle.writer.specs.Write.{Asked}
 use Rattle.batch.specs.Sectors.{sector_at}
-use Rattle.carrying.specs.declared.Carrying.{Carrying}
-use Rattle.carrying.specs.declared.Carrying.TheVariants.{Done, WrongIncoming, WrongOutgoing, WrongIdentification, WrongEdc, ReservedBit, WrongAddress, PastTheEnd}
+use Rattle.carrying.specs.declared.CarryError.{CarryError}
+use Rattle.carrying.specs.declared.CarryError.TheVariants.{WrongIncoming, WrongOutgoing, WrongIdentification, WrongEdc, ReservedBit, WrongAddress, PastTheEnd}
 pub mod One
 pub mod Sectors
 
@@ -43,13 +43,16 @@ pub data Carries (w : List ℕ) (start : HeaderTime) (old : List ℕ) : Say → 
   carries : {k : ℕ} {new : List ℕ} → DataFrames k w → length old ≡ 2352 * k → says k w start ≡ done [] → Carried k w start new
       → Carries w start old (done []) new
 
--- document 02's number for each answer
-abbrev pub say_of : Carrying → Say
-say_of Done = done []
-say_of WrongIncoming = refused 1 []
-say_of WrongOutgoing = refused 2 []
-say_of WrongIdentification = refused 28 []
-say_of WrongEdc = refused 29 []
-say_of ReservedBit = refused 30 []
-say_of WrongAddress = refused 4 []
-say_of PastTheEnd = refused 31 []
+-- document 02's number of each refusal
+abbrev pub refusal_of : CarryError → ℕ
+refusal_of WrongIncoming = 1
+refusal_of WrongOutgoing = 2
+refusal_of WrongIdentification = 28
+refusal_of WrongEdc = 29
+refusal_of ReservedBit = 30
+refusal_of WrongAddress = 4
+refusal_of PastTheEnd = 31
+
+-- and of each answer
+abbrev pub say_of : Result ⊤ CarryError → Say
+say_of = said_by (λ w. []) refusal_of

@@ -1,11 +1,11 @@
 -- Reading a frame: the words that are read fill both buffers from the front.
 -- Assumes nothing.
+use Rattle.std.specs.Prelude.{Some, None}
 use mathlib.Core.Path.{◌≡◌, sym, ap, ◌∙◌, subst}
 use mathlib.Core.Bool.{true, false}
 use mathlib.Core.List.{List}
 use Prim.Native.Nat.{ℕ, ◌+◌, ◌*◌, ◌≤◌, ◌<◌}
 use native.Mathlib.Omega.{arith}
-use borrow.Author.Tests.{eq-eqb, ne_eqb, lt-ltb, le-ltb}
 use lib.ListN.{length, set, get_or}
 use Rattle.outcome.specs.Buffer.{Filling}
 use Rattle.outcome.specs.Buffer.Filled.{filling-none, filling_more, filling_long, filling_all}
@@ -17,7 +17,6 @@ use Rattle.fields.specs.Fields.{field_at}
 use Rattle.fields.specs.Packed.{field_read}
 use Rattle.fields.specs.Packed.Read.{read_within}
 use Rattle.word_marks.specs.Marks.{byte_for, mark_for}
-use Rattle.channel_frame.specs.declared.Frame.TheVariants.{Read, NoHeader}
 use Rattle.channel_frame.specs.ChannelFrame.{headless, word_read}
 use Rattle.channel_frame.specs.FrameRead.{FrameRead, missed, word_bytes, word_marks}
 use Rattle.channel_frame.specs.FrameRead.Asked.{missed-headless}
@@ -100,13 +99,13 @@ module _ {channel : List ℕ} {f : ℕ} {b m : List ℕ} (w : FrameWanted channe
   missed_is : missed channel f b m ≡ headless (unpack channel) f
   missed_is = missed-headless channel f b m w.long w.within w.room_bytes w.room_marks
 
-  pub frame-missed : (ws g : List ℕ) → headless (unpack channel) f ≡ true → FrameRead channel ws g f b m b m NoHeader
+  pub frame-missed : (ws g : List ℕ) → headless (unpack channel) f ≡ true → FrameRead channel ws g f b m b m None
   frame-missed ws g e =
       let t = missed_is ∙ e in
       record { says = rw t; bytes_are = rw t; marks_are = rw t }
 
   pub frame-taken : (ws g : List ℕ) (i : ℕ) (bytes marks : List ℕ) → 33 ≤ i → Words ws g (unpack channel) f b m i bytes marks
-      → headless (unpack channel) f ≡ false → FrameRead channel ws g f b m bytes marks Read
+      → headless (unpack channel) f ≡ false → FrameRead channel ws g f b m bytes marks (Some tt)
   frame-taken ws g i bytes marks l h e =
       let t = missed_is ∙ e in
       record {
@@ -118,23 +117,5 @@ module _ {channel : List ℕ} {f : ℕ} {b m : List ℕ} (w : FrameWanted channe
 -- ---- one that is not, or that there is no room for
 
 module _ (channel ws g : List ℕ) (f : ℕ) (b m : List ℕ) where
-  none_read : missed channel f b m ≡ true → FrameRead channel ws g f b m b m NoHeader
+  pub none_read : missed channel f b m ≡ true → FrameRead channel ws g f b m b m None
   none_read t = record { says = rw t; bytes_are = rw t; marks_are = rw t }
-
-  pub wrong-channel : (length channel ≡ 7203 → ⊥) → FrameRead channel ws g f b m b m NoHeader
-  unfolding missed
-  wrong-channel l = none_read (rw (ne_eqb (length channel) 7203 l))
-
-  module _ (l : length channel ≡ 7203) where
-    pub wrong-frame : 98 ≤ f → FrameRead channel ws g f b m b m NoHeader
-    unfolding missed
-    wrong-frame h = none_read (rw (eq-eqb (length channel) 7203 l, le-ltb f 98 h))
-
-    module _ (h : f < 98) where
-      pub wrong_bytes : (length b ≡ 33 → ⊥) → FrameRead channel ws g f b m b m NoHeader
-      unfolding missed
-      wrong_bytes p = none_read (rw (eq-eqb (length channel) 7203 l, lt-ltb f 98 h, ne_eqb (length b) 33 p))
-
-      pub wrong_marks : length b ≡ 33 → (length m ≡ 33 → ⊥) → FrameRead channel ws g f b m b m NoHeader
-      unfolding missed
-      wrong_marks p q = none_read (rw (eq-eqb (length channel) 7203 l, lt-ltb f 98 h, eq-eqb (length b) 33 p, ne_eqb (length m) 33 q))

@@ -1,12 +1,10 @@
 -- What reading a frame answers, and what it leaves in both buffers.
 -- Assumes nothing.
-use Rattle.std.specs.Prelude.{◌≡◌, Bool, true, false, cond, ◌&&◌, List, ℕ, eqb, ltb, length}
+use Rattle.std.specs.Prelude.{◌≡◌, Bool, true, false, cond, ◌&&◌, List, ℕ, eqb, ltb, length, ⊤, Option, Some, None}
 use Rattle.outcome.specs.Table.{tabulated}
 use Rattle.bits.specs.Bits.{unpack}
 use Rattle.words.specs.LookUp.{looked_up}
 use Rattle.word_marks.specs.Marks.{byte_for, mark_for}
-use Rattle.channel_frame.specs.declared.Frame.{Frame}
-use Rattle.channel_frame.specs.declared.Frame.TheVariants.{Read, NoHeader}
 use Rattle.channel_frame.specs.ChannelFrame.{headless, word_read}
 pub mod Asked
 
@@ -27,12 +25,12 @@ unfoldable pub word_marks : List ℕ → List ℕ → List ℕ → ℕ → List 
 word_marks ws g bits f = tabulated (λ i. mark_for (looked_up ws g (word_read bits f i)) (word_read bits f i) i) 0 33
 
 -- the answer where nothing is read, or the frame is
-abbrev pub frame_says : Bool → Frame
-frame_says true = NoHeader
-frame_says false = Read
+abbrev pub frame_says : Bool → Option ⊤
+frame_says true = None
+frame_says false = Some tt
 
 -- a frame that is read leaves its words' bytes and marks in the buffers, and one that isn't leaves them as they were
-pub record FrameRead (channel ws g : List ℕ) (f : ℕ) (bytes₀ marks₀ bytes marks : List ℕ) (r : Frame) : Type 0 where
+pub record FrameRead (channel ws g : List ℕ) (f : ℕ) (bytes₀ marks₀ bytes marks : List ℕ) (r : Option ⊤) : Type 0 where
   pub says : r ≡ frame_says (missed channel f bytes₀ marks₀)
   pub bytes_are : bytes ≡ cond (missed channel f bytes₀ marks₀) bytes₀ (word_bytes ws g (unpack channel) f)
   pub marks_are : marks ≡ cond (missed channel f bytes₀ marks₀) marks₀ (word_marks ws g (unpack channel) f)

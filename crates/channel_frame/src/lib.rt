@@ -4,14 +4,6 @@
 ghost use Rattle.channel_frame.specs.FrameRead.{FrameRead};
 ghost use Rattle.channel_frame.specs.Inner.{FrameWanted};
 
-// What reading a frame answers: its bytes and marks are there, or none are, because no Sync Header stands where it should begin or because there
-// is no such frame, or no room for it.
-#[derive(Clone, Copy)]
-pub enum Frame {
-    Read,
-    NoHeader,
-}
-
 // A frame that is there, and room for its bytes and marks.
 fn read_words(
     channel: &[u8],
@@ -20,31 +12,30 @@ fn read_words(
     f: usize,
     bytes: &mut [u8],
     marks: &mut [u8],
-) -> Frame
+) -> Option<()>
     requires { FrameWanted channel.now f bytes.old marks.old }
     ensures { FrameRead channel.now table.now guide.now f bytes.old marks.old bytes.new marks.new result }
 {
     let at = 588 * f;
     let second = fields::field(channel, at + 12, 12);
     if fields::field(channel, at, 12) != 0b100000000001 {
-        return Frame::NoHeader;
+        return None;
     }
     if second != 0b000000000010 {
-        return Frame::NoHeader;
+        return None;
     }
-    let mut i: usize = 0;
-    while i < 33 {
+    for i in 0..33 {
         let w = fields::field(channel, at + 27 + 17 * i, 14) as u16;
         let r = word_marks::read_word(table, guide, w, i);
         bytes[i] = r.byte;
         marks[i] = r.mark;
-        i += 1;
     }
-    Frame::Read
+    Some(())
 }
 
-// Frame f of a Section's 7,203 bytes becomes 33 bytes and 33 marks, the Control byte first, in any table of words and by any guide to it; else both
-// buffers stay as they are.
+// Frame f of a Section's 7,203 bytes becomes 33 bytes and 33 marks, the Control byte first, in any table of words and by any guide to it. None of that
+// happens and both buffers stay as they are where no Sync Header stands at its beginning, there is no such frame, or no room for it.
+#[tactic(auto, unfolding(crate::specs::FrameRead::missed), using(crate::proofs::Framing::none_read))]
 pub fn read_one(
     channel: &[u8],
     table: &[u16; 256],
@@ -52,20 +43,11 @@ pub fn read_one(
     f: usize,
     bytes: &mut [u8],
     marks: &mut [u8],
-) -> Frame
+) -> Option<()>
     ensures { FrameRead channel.now table.now guide.now f bytes.old marks.old bytes.new marks.new result }
 {
-    if channel.len() != 7203 {
-        return Frame::NoHeader;
-    }
-    if f >= 98 {
-        return Frame::NoHeader;
-    }
-    if bytes.len() != 33 {
-        return Frame::NoHeader;
-    }
-    if marks.len() != 33 {
-        return Frame::NoHeader;
+    if channel.len() != 7203 || f >= 98 || bytes.len() != 33 || marks.len() != 33 {
+        return None;
     }
     read_words(channel, table, guide, f, bytes, marks)
 }

@@ -3,7 +3,7 @@
 use mathlib.Core.Path.{◌≡◌, refl, sym, ap, ◌∙◌}
 use mathlib.Core.Bool.{Bool, true, false, cond}
 use mathlib.Core.List.{List, ◌++◌}
-use Prim.Native.Nat.{ℕ, zero, suc, ◌+◌, ◌-◌, ◌*◌, ◌≤◌, ◌<◌, ◌^◌}
+use Prim.Native.Nat.{ℕ, zero, suc, ◌+◌, ◌-◌, ◌*◌, ◌/◌, ◌≤◌, ◌<◌, ◌^◌}
 use native.Mathlib.Nat.{mod-eq_of_lt}
 use native.Mathlib.Omega.{arith}
 use borrow.Author.Tests.{eqb-true, eqb-false}
@@ -54,6 +54,19 @@ high3 u x e = omega arith
 
 high0 : (u x : ℕ) → x ≡ 14 - u → 14 - u ≡ 0 + (0 + (0 + x))
 high0 u x e = omega arith
+
+-- 100 with its ONE moved on
+pub one_bits : (n : ℕ) → n ≤ 2 → bits_of 3 (4 / 2 ^ n) ≡ one_after n
+one_bits zero h = refl
+one_bits (suc zero) h = refl
+one_bits (suc (suc zero)) h = refl
+one_bits (suc (suc (suc n))) h = absurd (omega arith)
+
+pub one-small : (n : ℕ) → n ≤ 2 → 4 / 2 ^ n < 8
+one-small zero h = omega arith
+one-small (suc zero) h = omega arith
+one-small (suc (suc zero)) h = omega arith
+one-small (suc (suc (suc n))) h = absurd (omega arith)
 
 -- ---- a word by its profile
 

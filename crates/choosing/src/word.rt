@@ -1,5 +1,5 @@
 // The choice of the Merging bits before a word, by the word's profile.
-ghost use Rattle.std.specs.Prelude.{◌≡◌, ◌≤◌, ◌<◌};
+ghost use Rattle.std.specs.Prelude.{◌≡◌, ◌≤◌};
 ghost use Rattle.bits.specs.Bits.{bits_of};
 ghost use Rattle.merging.specs.Chosen.{m000};
 ghost use Rattle.words.specs.Symbols.{symbols};
@@ -13,22 +13,18 @@ use profiles::Profile;
 use traces::{Choice, Trace};
 
 // Merging bits with a ONE after `before` ZEROs, and the word.
-fn with_one(t: Trace, p: Profile, m: u32, before: u8) -> Choice
-    requires { Fit t × Profiled p.word p × (before ≤ 2) × (bits_of 3 m ≡ one_after before) × (m < 8) }
+fn with_one(t: Trace, p: Profile, before: u8) -> Choice
+    requires { Fit t × Profiled p.word p × (before ≤ 2) }
     ensures { WordStands t (bits_of 14 p.word) result (one_after before) }
 {
-    let tally = t.tally;
     let entry = automaton_states::enter(t.run, before, 2 - before, 13 - before);
-    let run = automaton_states::after_word(entry, p.lead, p.plain, p.ten);
     let a = before as u64;
-    let after = traces::spend(tally, a + (14 - p.ups), (3 - a) + p.ups, 1 - p.odd);
-    let next = Trace {
-        run: run,
-        tally: after,
-    };
     Choice {
-        bits: m * 16384 + p.word,
-        after: next,
+        bits: (0b100 >> before) * 16384 + p.word,
+        after: Trace {
+            run: automaton_states::after_word(entry, p.lead, p.plain, p.ten),
+            tally: traces::spend(t.tally, a + (14 - p.ups), (3 - a) + p.ups, 1 - p.odd),
+        },
     }
 }
 
@@ -37,17 +33,13 @@ fn without_one(t: Trace, p: Profile) -> Choice
     requires { Fit t × Profiled p.word p }
     ensures { WordStands t (bits_of 14 p.word) result m000 }
 {
-    let tally = t.tally;
     let entry = automaton_states::after_zeros(t.run);
-    let run = automaton_states::after_word(entry, p.lead, p.plain, p.ten);
-    let after = traces::spend(tally, 3 + p.ups, 14 - p.ups, p.odd);
-    let next = Trace {
-        run: run,
-        tally: after,
-    };
     Choice {
         bits: p.word,
-        after: next,
+        after: Trace {
+            run: automaton_states::after_word(entry, p.lead, p.plain, p.ten),
+            tally: traces::spend(t.tally, 3 + p.ups, 14 - p.ups, p.odd),
+        },
     }
 }
 
@@ -56,9 +48,9 @@ fn best(t: Trace, p: Profile) -> Choice
     requires { Fit t × Profiled p.word p }
     ensures { result ≡ chosen_word t (bits_of 14 p.word) }
 {
-    let a = with_one(t, p, 4, 0);
-    let b = with_one(t, p, 2, 1);
-    let c = with_one(t, p, 1, 2);
+    let a = with_one(t, p, 0);
+    let b = with_one(t, p, 1);
+    let c = with_one(t, p, 2);
     let d = without_one(t, p);
     traces::better_of(traces::better_of(traces::better_of(a, b), c), d)
 }
@@ -68,12 +60,8 @@ pub(crate) fn choose_word(table: &[u8; 2064], t: Trace, k: usize) -> Choice
     requires { table.now ≡ rows symbols }
     ensures { result ≡ word_choice t k }
 {
-    if traces::is_fit(t) {
-        if k < 258 {
-            let p = profiles::profile_of(table, k);
-            return best(t, p);
-        }
-        return Choice { bits: 0, after: t };
+    if traces::is_fit(t) && k < 258 {
+        return best(t, profiles::profile_of(table, k));
     }
     Choice { bits: 0, after: t }
 }

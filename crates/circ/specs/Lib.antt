@@ -9,5 +9,6 @@ pub mod Marked
 -- a step, with document 01's refusals
 pub mod Step
 pub mod Steps
+pub mod Refusals
 -- document 02, §9
 pub mod Rings

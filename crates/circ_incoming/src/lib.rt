@@ -9,23 +9,18 @@ ghost use Rattle.circ.specs.Marked.{entering};
 fn lost_by(mark: u8) -> u8
     ensures { result ≡ lost_by mark }
 {
-    if mark == 1 {
-        return 1;
+    match mark {
+        1 | 4 => 1,
+        _ => 0,
     }
-    if mark == 4 {
-        return 1;
-    }
-    0
 }
 
 // Marks become those that are kept.
 fn keep_lost(marks: &mut [u8])
     ensures { marks.new ≡ lost_marks marks.old }
 {
-    let mut i: usize = 0;
-    while i < marks.len() {
-        marks[i] = lost_by(marks[i]);
-        i += 1;
+    for mark in marks.iter_mut() {
+        *mark = lost_by(*mark);
     }
 }
 

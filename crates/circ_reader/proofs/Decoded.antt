@@ -3,10 +3,9 @@
 use Prim.Native.Nat.{ℕ}
 use mathlib.Core.Path.{◌≡◌, ap, ap₂, ◌∙◌}
 use mathlib.Core.Bool.{true}
-use mathlib.Core.List.{List, [], ◌∷◌, ◌++◌}
+use mathlib.Core.List.{List, ◌++◌}
 use native.Mathlib.Omega.{arith}
 use lib.ListN.{length, length-append}
-use Rattle.outcome.specs.Say.{Say, done}
 use Rattle.rings.specs.Rings.{waits, below, onward, unrolled_all}
 use Rattle.circ.specs.Rows.{collected, doubt}
 use Rattle.circ.specs.Marked.{marked_next, marked_rows}
@@ -34,16 +33,16 @@ module _ (ps s frame marks f2 lost rows store' : List ℕ) (legal : below (waits
   unfolding x line
   rows_are = told.rows_are ∙ decoded-rows ps s told.many told.long legal (f2 ++ lost) fits ∙ ap (marked_rows (unrolled_all marked_waits (shared ps) s)) whole
 
-  pub gone : (ps' out : List ℕ) (say : Say) → ps' ≡ onward (waits reader_waits) ps → say ≡ done (doubt rows ∷ []) → out ≡ collected rows
-      → ReaderGone ps s (frame ++ marks) ps' store' say out
+  pub gone : (ps' out : List ℕ) (mark : ℕ) → ps' ≡ onward (waits reader_waits) ps → mark ≡ doubt rows → out ≡ collected rows
+      → ReaderGone ps s (frame ++ marks) ps' store' mark out
   unfolding x line
-  gone ps' out say moved said given =
+  gone ps' out mark moved said given =
       record {
         places_are = moved;
         line_is =
             ap₂ (λ (p t : List ℕ). unrolled_all marked_waits (shared p) t) moved told.store_is
             ∙ decoded_lines ps s told.many told.long legal (f2 ++ lost) fits
             ∙ ap (marked_next (unrolled_all marked_waits (shared ps) s)) whole;
-        say_is = said ∙ ap (λ (t : List ℕ). done (doubt t ∷ [])) rows_are;
+        mark_is = said ∙ ap doubt rows_are;
         out_is = given ∙ ap collected rows_are;
       }

@@ -1,15 +1,18 @@
 -- What the reader's answers say, in document 01's numbers and values.
 -- Assumes nothing.
-use Rattle.std.specs.Prelude.{[], ◌∷◌}
-use Rattle.outcome.specs.Say.{Say, done, refused}
-use Rattle.circ_reader.specs.declared.ReaderAnswer as reading
-use Rattle.circ_reader.specs.declared.ReaderAnswer.TheVariants as read
+use Rattle.std.specs.Prelude.{ℕ, [], ◌∷◌, Result}
+use Rattle.outcome.specs.Say.{Say, said_by}
+use Rattle.circ.specs.declared.CircError.{CircError}
+use Rattle.circ.specs.Refusals.{refusal_of}
+use Rattle.circ_reader.specs.declared.Surety.{Surety}
+use Rattle.circ_reader.specs.declared.Surety.TheVariants.{Sure, InDoubt}
 pub mod One
 
+-- the doubt mark of a frame
+abbrev pub mark_of : Surety → ℕ
+mark_of Sure = 0
+mark_of InDoubt = 1
+
 -- with the frame comes its doubt mark
-abbrev pub say_of : reading.ReaderAnswer → Say
-say_of read.Sure = done (0 ∷ [])
-say_of read.InDoubt = done (1 ∷ [])
-say_of read.WrongIncoming = refused 1 []
-say_of read.WrongOutgoing = refused 2 []
-say_of read.WrongPlace = refused 6 []
+abbrev pub say_of : Result Surety CircError → Say
+say_of = said_by (λ s. mark_of s ∷ []) refusal_of

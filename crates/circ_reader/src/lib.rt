@@ -2,21 +2,22 @@
 // marks that wait, in rings in one flat store (document 02, §9), and a place for each row that waits: a mark is at its byte's place.
 #![tactic(auto)]
 
-ghost use Rattle.std.specs.Prelude.{◌≡◌, [], ◌∷◌, ◌++◌, ◌≤◌, length};
-ghost use Rattle.outcome.specs.Say.{done, cleared};
+ghost use Rattle.std.specs.Prelude.{◌≡◌, ◌++◌, ◌≤◌, length};
 ghost use Rattle.lines.specs.Delay.{zeros};
 ghost use Rattle.circ.specs.Rows.{collected, doubt};
 ghost use Rattle.circ.specs.Marked.{fresh_reader};
 ghost use Rattle.circ.specs.Rings.{reader_rings, reads_in_place};
-ghost use Rattle.circ_reader.specs.Answers.{say_of};
+ghost use Rattle.circ_reader.specs.Answers.{mark_of, say_of};
 ghost use Rattle.calls.specs.Step.{step};
 ghost use Rattle.circ_reader.specs.Inner.Reading.{ReaderAsks, ReaderGone};
 
 mod ring_lengths;
 
+use circ::CircError;
 use ring_lengths::RING_LENGTHS;
 
 // 16 bytes in as many rows wait before C1 and 1,512 in 27 between C1 and C2, each with its mark, and 24 bytes and two doubts in 13 after C2. Any mark but 0 marks.
+// It stands beside `CircWriter` and not in one generic struct with it: both are no more than two arrays, and their steps take different things.
 #[derive(Clone, Copy)]
 pub struct CircReader {
     pub store: [u8; 3082],
@@ -24,19 +25,28 @@ pub struct CircReader {
 }
 
 // The 24 bytes are sure, or in doubt because for a C2 word that they came from no codeword was found.
-#[derive(Clone, Copy)]
-pub enum ReaderAnswer {
+#[derive(Clone, Copy, Debug, PartialEq, Eq)]
+pub enum Surety {
     Sure,
     InDoubt,
-    WrongIncoming,
-    WrongOutgoing,
-    WrongPlace,
+}
+
+// The doubt mark.
+impl From<Surety> for u8 {
+    ghost from_gives = { λ s mark. mark ≡ mark_of s };
+
+    fn from(surety: Surety) -> u8 {
+        match surety {
+            Surety::Sure => 0,
+            Surety::InDoubt => 1,
+        }
+    }
 }
 
 #[derive(Clone, Copy)]
 pub struct ReaderStep {
     pub next: CircReader,
-    pub answer: ReaderAnswer,
+    pub answer: Result<Surety, CircError>,
 }
 
 // The F1-frame in the rows.
@@ -51,28 +61,25 @@ fn collect(rows: &[u8]) -> [u8; 24]
     ]
 }
 
-// Whether either of the two marks is set.
-fn answer_by(rows: &[u8]) -> ReaderAnswer
+// In doubt where either of the two marks is set.
+fn surety_of(rows: &[u8]) -> Surety
     requires { 30 ≤ length rows.now }
-    ensures { say_of result ≡ done (doubt rows.now ∷ []) }
+    ensures { mark_of result ≡ doubt rows.now }
 {
-    if rows[28] != 0 {
-        return ReaderAnswer::InDoubt;
+    if rows[28] != 0 || rows[29] != 0 {
+        return Surety::InDoubt;
     }
-    if rows[29] != 0 {
-        return ReaderAnswer::InDoubt;
-    }
-    ReaderAnswer::Sure
+    Surety::Sure
 }
 
 // The F1-frame in the rows goes out, and is sure or in doubt.
-fn hand_out(rows: &[u8], out: &mut [u8]) -> ReaderAnswer
+fn hand_out(rows: &[u8], out: &mut [u8]) -> Surety
     requires { (30 ≤ length rows.now) × (length out.old ≡ 24) }
-    ensures { (say_of result ≡ done (doubt rows.now ∷ [])) × (out.new ≡ collected rows.now) }
+    ensures { (mark_of result ≡ doubt rows.now) × (out.new ≡ collected rows.now) }
 {
     let f1 = collect(rows);
     outcome::copy(&f1, out);
-    answer_by(rows)
+    surety_of(rows)
 }
 
 // The step where all lengths and all places are right.
@@ -82,9 +89,9 @@ fn go(
     frame: &[u8],
     marks: &[u8],
     out: &mut [u8],
-) -> ReaderAnswer
+) -> Surety
     requires { ReaderAsks places.old frame.now marks.now out.old }
-    ensures { ReaderGone places.old store.old (frame.now ++ marks.now) places.new store.new (say_of result) out.new }
+    ensures { ReaderGone places.old store.old (frame.now ++ marks.now) places.new store.new (mark_of result) out.new }
 {
     let mut f2 = [0u8; 32];
     outcome::copy(frame, &mut f2);
@@ -95,38 +102,30 @@ fn go(
     hand_out(&rows, out)
 }
 
-// A refusal whose buffer is cleared.
-fn refuse(answer: ReaderAnswer, out: &mut [u8]) -> ReaderAnswer
-    ensures { (result ≡ answer) × (out.new ≡ cleared 24 out.old) }
-{
-    outcome::wipe(out, 24);
-    answer
-}
-
 // An F2-frame of 32 bytes and as many marks in, an F1-frame of 24 out, sure or in doubt. The state is lent and becomes the next; a refusal leaves it.
+// Store and places are lent apart, since callers in other languages hold them so (`road_circ_read_step`).
 pub fn read_in_place(
     store: &mut [u8; 3082],
     places: &mut [u8; 56],
     frame: &[u8],
     marks: &[u8],
     out: &mut [u8],
-) -> ReaderAnswer
+) -> Result<Surety, CircError>
     ensures { step (say_of result) (reader_rings places.new store.new) out.new
         ≡ reads_in_place (reader_rings places.old store.old) frame.now marks.now out.old }
 {
-    if frame.len() != 32 {
-        return refuse(ReaderAnswer::WrongIncoming, out);
-    }
-    if marks.len() != 32 {
-        return refuse(ReaderAnswer::WrongIncoming, out);
+    if frame.len() != 32 || marks.len() != 32 {
+        outcome::wipe(out, 24);
+        return Err(CircError::WrongIncoming);
     }
     if out.len() != 24 {
-        return ReaderAnswer::WrongOutgoing;
+        return Err(CircError::WrongOutgoing);
     }
     if !ring_places::below(&RING_LENGTHS, places) {
-        return refuse(ReaderAnswer::WrongPlace, out);
+        outcome::wipe(out, 24);
+        return Err(CircError::WrongPlace);
     }
-    go(store, places, frame, marks, out)
+    Ok(go(store, places, frame, marks, out))
 }
 
 impl CircReader {
@@ -145,12 +144,8 @@ impl CircReader {
         ensures { step (say_of result.answer) (reader_rings result.next.places result.next.store) out.new
             ≡ reads_in_place (reader_rings self.places self.store) frame.now marks.now out.old }
     {
-        let mut store = self.store;
-        let mut places = self.places;
-        let answer = read_in_place(&mut store, &mut places, frame, marks, out);
-        ReaderStep {
-            next: CircReader { store, places },
-            answer,
-        }
+        let mut next = self;
+        let answer = read_in_place(&mut next.store, &mut next.places, frame, marks, out);
+        ReaderStep { next, answer }
     }
 }

@@ -31,6 +31,12 @@ module _ (does : Rings → Call → Step Rings) where
   running_none state₀ incoming lengths out state e =
       record { all = ap (λ (s : Rings). runs does s lengths incoming out) (sym e); as_many = refl; as_long = refl; k_in = omega arith; from_in = omega arith; to_in = omega arith }
 
+  -- the same by another name of the place among the answers
+  pub running_at : {state₀ : Rings} {incoming lengths out₀ : List ℕ} {state : Rings} {k n from to : ℕ} {answers out : List ℕ} → k ≡ n
+      → Running state₀ incoming lengths out₀ state k from to answers out → Running state₀ incoming lengths out₀ state n from to answers out
+  running_at {state₀} {incoming} {lengths} {out₀} {state} {from = from} {to} {answers} {out} e f =
+      subst (λ (m : ℕ). Running state₀ incoming lengths out₀ state m from to answers out) e f
+
   -- where a single length is left, or none, the run is over
   over : (state : Rings) (lengths incoming out : List ℕ) → length lengths < 2 → runs does state lengths incoming out ≡ left lengths out
   unfolding run lent unlent in_front

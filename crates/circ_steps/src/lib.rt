@@ -7,23 +7,19 @@ ghost use Rattle.circ.specs.Rings.{writer_rings, writes_in_place, reader_rings, 
 ghost use Rattle.circ_reader.specs.Answers as readers;
 ghost use Rattle.told.specs.Told.{Tells, Told};
 
-use circ_reader::{CircReader, ReaderAnswer};
-use circ_writer::CircWriter;
+use circ::CircError;
+use circ_reader::{Surety, read_in_place};
+use circ_writer::write_in_place;
+use outcome::Refusal;
+use told::{number, tell};
 
 // With a frame comes its doubt mark.
-fn was_read(a: ReaderAnswer, doubt: &mut [u64; 1]) -> u8
-    ensures { Tells 1 (readers.say_of a) result doubt.new }
+fn was_read(answer: Result<Surety, CircError>, doubt: &mut [u64; 1]) -> u8
+    ensures { Tells 1 (readers.say_of answer) result doubt.new }
 {
-    *doubt = [0];
-    match a {
-        ReaderAnswer::Sure => 0,
-        ReaderAnswer::InDoubt => {
-            *doubt = [1];
-            0
-        }
-        ReaderAnswer::WrongIncoming => 1,
-        ReaderAnswer::WrongOutgoing => 2,
-        ReaderAnswer::WrongPlace => 6,
+    match answer {
+        Ok(surety) => tell(0, [u8::from(surety) as u64], doubt),
+        Err(e) => tell(e.number(), [0], doubt),
     }
 }
 
@@ -32,19 +28,7 @@ pub fn write(store: &mut [u8; 1552], places: &mut [u8; 55], frame: &[u8], out: &
     ensures { Told 0 (λ say. step say (writer_rings places.new store.new) out.new
         ≡ writes_in_place (writer_rings places.old store.old) frame.now out.old) result [] }
 {
-    let waiting = *store;
-    let at = *places;
-    let state = CircWriter {
-        store: waiting,
-        places: at,
-    };
-    let stepped = state.step(frame, out);
-    let next_store = stepped.next.store;
-    let next_places = stepped.next.places;
-    *store = next_store;
-    *places = next_places;
-    let answer = stepped.answer;
-    circ_writer::number(answer)
+    number(write_in_place(store, places, frame, out))
 }
 
 // The same of the reader.
@@ -59,17 +43,5 @@ pub fn read(
     ensures { Told 1 (λ say. step say (reader_rings places.new store.new) out.new
         ≡ reads_in_place (reader_rings places.old store.old) frame.now marks.now out.old) result doubt.new }
 {
-    let waiting = *store;
-    let at = *places;
-    let state = CircReader {
-        store: waiting,
-        places: at,
-    };
-    let stepped = state.step(frame, marks, out);
-    let next_store = stepped.next.store;
-    let next_places = stepped.next.places;
-    *store = next_store;
-    *places = next_places;
-    let answer = stepped.answer;
-    was_read(answer, doubt)
+    was_read(read_in_place(store, places, frame, marks, out), doubt)
 }

@@ -8,11 +8,11 @@ ghost use Rattle.circ_writer.specs.Answers.{say_of};
 ghost use Rattle.circ_writer.specs.Inner.Writing.{WriterAsks, WriterGone};
 ghost use Rattle.lines.specs.Delay.{zeros};
 ghost use Rattle.calls.specs.Step.{step};
-ghost use Rattle.told.specs.Told.{number_of};
 ghost use Rattle.circ.specs.Rings.{writer_rings, writes_in_place};
 
 mod ring_lengths;
 
+use circ::CircError;
 use ring_lengths::RING_LENGTHS;
 
 // 24 bytes in 12 rows wait before C2, 1,512 in 27 between C2 and C1, and 16 in as many after C1.
@@ -23,29 +23,9 @@ pub struct CircWriter {
 }
 
 #[derive(Clone, Copy)]
-pub enum WriterAnswer {
-    Written,
-    WrongIncoming,
-    WrongOutgoing,
-    WrongPlace,
-}
-
-// Its number, for callers in other languages.
-pub fn number(a: WriterAnswer) -> u8
-    ensures { result ≡ number_of (say_of a) }
-{
-    match a {
-        WriterAnswer::Written => 0,
-        WriterAnswer::WrongIncoming => 1,
-        WriterAnswer::WrongOutgoing => 2,
-        WriterAnswer::WrongPlace => 6,
-    }
-}
-
-#[derive(Clone, Copy)]
 pub struct WriterStep {
     pub next: CircWriter,
-    pub answer: WriterAnswer,
+    pub answer: Result<(), CircError>,
 }
 
 // The step where both lengths and all places are right.
@@ -61,28 +41,29 @@ fn go(store: &mut [u8; 1552], places: &mut [u8; 55], frame: &[u8], out: &mut [u8
 }
 
 // An F1-frame of 24 bytes in, an F2-frame of 32 out. The state is lent and becomes the next; a refusal leaves it.
+// Store and places are lent apart, since callers in other languages hold them so (`road_circ_write_step`).
 pub fn write_in_place(
     store: &mut [u8; 1552],
     places: &mut [u8; 55],
     frame: &[u8],
     out: &mut [u8],
-) -> WriterAnswer
+) -> Result<(), CircError>
     ensures { step (say_of result) (writer_rings places.new store.new) out.new
         ≡ writes_in_place (writer_rings places.old store.old) frame.now out.old }
 {
     if frame.len() != 24 {
         outcome::wipe(out, 32);
-        return WriterAnswer::WrongIncoming;
+        return Err(CircError::WrongIncoming);
     }
     if out.len() != 32 {
-        return WriterAnswer::WrongOutgoing;
+        return Err(CircError::WrongOutgoing);
     }
     if !ring_places::below(&RING_LENGTHS, places) {
         outcome::wipe(out, 32);
-        return WriterAnswer::WrongPlace;
+        return Err(CircError::WrongPlace);
     }
     go(store, places, frame, out);
-    WriterAnswer::Written
+    Ok(())
 }
 
 impl CircWriter {
@@ -101,12 +82,8 @@ impl CircWriter {
         ensures { step (say_of result.answer) (writer_rings result.next.places result.next.store) out.new
             ≡ writes_in_place (writer_rings self.places self.store) frame.now out.old }
     {
-        let mut store = self.store;
-        let mut places = self.places;
-        let answer = write_in_place(&mut store, &mut places, frame, out);
-        WriterStep {
-            next: CircWriter { store, places },
-            answer,
-        }
+        let mut next = self;
+        let answer = write_in_place(&mut next.store, &mut next.places, frame, out);
+        WriterStep { next, answer }
     }
 }

@@ -6,15 +6,15 @@ ghost use Rattle.filling.specs.Fill.{Fills};
 ghost use Rattle.code_exports.specs.Verdicts.{told_of};
 
 use codeword::Verdict;
-use told::tell_two;
+use told::tell;
 
-fn tell(v: Verdict, change: &mut [u64; 2]) -> u8
+fn tell_verdict(v: Verdict, change: &mut [u64; 2]) -> u8
     ensures { result ∷ change.new ≡ told_of v }
 {
     match v {
-        Verdict::Clean => tell_two(0, 0, 0, change),
-        Verdict::Change(i, b) => tell_two(1, i as u64, b as u64, change),
-        Verdict::Lost => tell_two(2, 0, 0, change),
+        Verdict::Clean => tell(0, [0, 0], change),
+        Verdict::Change(i, b) => tell(1, [i as u64, b as u64], change),
+        Verdict::Lost => tell(2, [0, 0], change),
     }
 }
 
@@ -23,7 +23,7 @@ fn tell(v: Verdict, change: &mut [u64; 2]) -> u8
 pub extern "C" fn road_verdict_of_two(w: &[u8], change: &mut [u64; 2]) -> u8
     ensures { result ∷ change.new ≡ told_of (verdict 2 w.now) }
 {
-    tell(verdicts::verdict_of_two(w), change)
+    tell_verdict(verdicts::verdict_of_two(w), change)
 }
 
 // A word of C1 or C2.
@@ -31,7 +31,7 @@ pub extern "C" fn road_verdict_of_two(w: &[u8], change: &mut [u64; 2]) -> u8
 pub extern "C" fn road_verdict_of_four(w: &[u8], change: &mut [u64; 2]) -> u8
     ensures { result ∷ change.new ≡ told_of (verdict 4 w.now) }
 {
-    tell(quick_verdicts::verdict_of_four(w), change)
+    tell_verdict(quick_verdicts::verdict_of_four(w), change)
 }
 
 // The two bytes of parity behind a word.
@@ -39,8 +39,7 @@ pub extern "C" fn road_verdict_of_four(w: &[u8], change: &mut [u64; 2]) -> u8
 pub extern "C" fn road_parity_of_two(w: &[u8], parity: &mut [u8; 2])
     ensures { Parity 2 parity.new (w.now ++ parity.new) }
 {
-    let p = word_parity::parity_of_two(w);
-    *parity = [p.0, p.1];
+    *parity = word_parity::parity_of_two(w);
 }
 
 // The four bytes of parity behind a word: C1.

@@ -2,22 +2,19 @@
 // have the code.
 #![tactic(auto)]
 
-// What the sums of a word say: nothing is wrong; one byte is, at a place, and what is to be added to it; or no codeword is near.
-#[derive(Clone, Copy)]
+// What the sums of a word say: nothing is wrong; one byte is, at a place, and what is to be added to it; or no codeword is near. All three are answers on
+// equal terms, so that a Result with an Option in it would say less than their names.
+#[derive(Clone, Copy, Debug, PartialEq, Eq)]
 pub enum Fault {
     Clean,
     At(usize, u8),
     Lost,
 }
 
-// What to do with a word: nothing; one byte to change, its place and its new value; or no codeword is near.
-#[derive(Clone, Copy)]
+// What to do with a word: nothing; one byte to change, its place and its new value; or no codeword is near. Three answers too.
+#[derive(Clone, Copy, Debug, PartialEq, Eq)]
 pub enum Verdict {
     Clean,
     Change(usize, u8),
     Lost,
 }
-
-// Two bytes of one kind: the sums of a word with j = 0 and 1, or parity in the order in which it stands in a word.
-#[derive(Clone, Copy)]
-pub struct TwoBytes(pub u8, pub u8);

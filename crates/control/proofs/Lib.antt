@@ -1,2 +1,2 @@
--- the digits of a Catalog Number, one a turn
+-- the digits of a Catalog Number, place by place
 pub mod Digits

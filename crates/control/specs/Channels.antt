@@ -1,6 +1,6 @@
 -- The channels of a Section's Control bytes (clause 22): which bits the fields make up, and the 96 bytes. Byte k stands in F3-Frame k + 2.
 -- Assumes nothing.
-use Rattle.std.specs.Prelude.{Bool, true, false, List, [], ◌∷◌, ◌++◌, ℕ, ◌+◌, ◌*◌, replicate}
+use Rattle.std.specs.Prelude.{Bool, true, false, cond, eqb, List, [], ◌∷◌, ◌++◌, ℕ, ◌+◌, ◌*◌, replicate}
 use Rattle.bits.specs.Bits.{bits_of, unpack}
 use Rattle.crc.specs.Crc.{crc}
 use Rattle.control_time.specs.declared.ControlTime.{ControlTime}
@@ -17,6 +17,10 @@ pub mod Framed
 abbrev pub control_field : Copying → ℕ
 control_field Forbidden = 4
 control_field Permitted = 6
+
+-- what a Control field says of copying: it is permitted in 0110, and in no other
+abbrev pub copying_of : ℕ → Copying
+copying_of field = cond (eqb field 6) Permitted Forbidden
 
 -- the q-Mode field (22.3.2)
 abbrev pub q_mode : QData → ℕ

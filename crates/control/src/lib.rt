@@ -1,21 +1,45 @@
 // The fields in the Control bytes of a Section (clause 22), and whether clause 22 allows them.
 #![tactic(auto)]
 
-ghost use Rattle.std.specs.Prelude.{◌≡◌, ◌&&◌};
-ghost use Rattle.control_time.specs.Elapsed.{in_range};
+ghost use Rattle.std.specs.Prelude.{◌≡◌};
+ghost use Rattle.control.specs.Channels.{control_field, copying_of};
 ghost use Rattle.control.specs.Fields.{track_number, decimal_digits, allowed_item, allowed_data, allowed};
 
 use control_time::ControlTime;
 
 // Whether the user data of an Information Track may be copied (22.3.1).
-#[derive(Clone, Copy)]
+#[derive(Clone, Copy, Debug, PartialEq, Eq)]
 pub enum Copying {
     Forbidden,
     Permitted,
 }
 
+// What a Control field says of copying, also one that clause 22.3.1 does not have.
+impl From<u8> for Copying {
+    ghost from_gives = { λ field copying. copying ≡ copying_of field };
+
+    fn from(field: u8) -> Copying {
+        match field {
+            0b0110 => Copying::Permitted,
+            _ => Copying::Forbidden,
+        }
+    }
+}
+
+// The Control field (22.3.1).
+impl From<Copying> for u8 {
+    ghost from_gives = { λ copying field. field ≡ control_field copying };
+
+    fn from(copying: Copying) -> u8 {
+        match copying {
+            Copying::Forbidden => 0b0100,
+            Copying::Permitted => 0b0110,
+        }
+    }
+}
+
 // An item of the table of contents (22.3.4.2), by what its POINTER field points to.
-#[derive(Clone, Copy)]
+#[derive(Clone, Copy, Debug, PartialEq, Eq)]
 pub enum Item {
     // a track by its number, and where its first Section with Index 01 stands
     Track(u8, ControlTime),
@@ -28,7 +52,7 @@ pub enum Item {
 }
 
 // The q-Mode and q-Data fields (22.3.2 to 22.3.5).
-#[derive(Clone, Copy)]
+#[derive(Clone, Copy, Debug, PartialEq, Eq)]
 pub enum QData {
     // q-Mode 1 in the User Data Area: TNO, INDEX, relative and absolute time
     UserData(u8, u8, ControlTime, ControlTime),
@@ -41,7 +65,7 @@ pub enum QData {
 }
 
 // What the 96 Control bytes of a Section say.
-#[derive(Clone, Copy)]
+#[derive(Clone, Copy, Debug, PartialEq, Eq)]
 pub struct Control {
     // the p bit, which is a ONE in a Flag (22.2)
     pub flag: bool,
@@ -50,54 +74,28 @@ pub struct Control {
 }
 
 // 01 to 99.
+#[tactic(auto, unfolding(crate::specs::Fields::track_number))]
 fn is_track_number(n: u8) -> bool
     ensures { result ≡ track_number n }
 {
-    if n == 0 {
-        return false;
-    }
-    digits::two_digits(n, 99)
+    n != 0 && digits::two_digits(n, 99)
 }
 
 // Thirteen decimal digits of four bits each.
 fn is_catalog_number(n: u64) -> bool
     ensures { result ≡ decimal_digits 13 n }
 {
-    let mut rest = n;
-    let mut i: usize = 0;
-    while i < 13 {
-        if rest % 16 >= 10 {
-            return false;
-        }
-        rest = rest / 16;
-        i += 1;
-    }
-    rest == 0
+    (0..13).all(|i: u32| (n >> (4 * i)) % 16 < 10) && n >> 52 == 0
 }
 
 fn item_allowed(item: Item) -> bool
     ensures { result ≡ allowed_item item }
 {
     match item {
-        Item::Track(n, at) => {
-            if !is_track_number(n) {
-                return false;
-            }
-            at.in_range()
-        }
-        Item::FirstTrack(n) => is_track_number(n),
-        Item::LastTrack(n) => is_track_number(n),
+        Item::Track(n, at) => is_track_number(n) && at.in_range(),
+        Item::FirstTrack(n) | Item::LastTrack(n) => is_track_number(n),
         Item::LeadOutTrack(at) => at.in_range(),
     }
-}
-
-fn both_in_range(relative: ControlTime, absolute: ControlTime) -> bool
-    ensures { result ≡ (in_range relative && in_range absolute) }
-{
-    if !relative.in_range() {
-        return false;
-    }
-    absolute.in_range()
 }
 
 fn data_allowed(flag: bool, q_data: QData) -> bool
@@ -105,30 +103,14 @@ fn data_allowed(flag: bool, q_data: QData) -> bool
 {
     match q_data {
         QData::UserData(tno, index, relative, absolute) => {
-            if !is_track_number(tno) {
-                return false;
-            }
-            if !digits::two_digits(index, 99) {
-                return false;
-            }
-            both_in_range(relative, absolute)
+            is_track_number(tno)
+                && digits::two_digits(index, 99)
+                && relative.in_range()
+                && absolute.in_range()
         }
-        QData::LeadOut(relative, absolute) => both_in_range(relative, absolute),
-        QData::LeadIn(item, relative) => {
-            if flag {
-                return false;
-            }
-            if !item_allowed(item) {
-                return false;
-            }
-            relative.in_range()
-        }
-        QData::CatalogNumber(n, frac) => {
-            if !is_catalog_number(n) {
-                return false;
-            }
-            digits::two_digits(frac, 74)
-        }
+        QData::LeadOut(relative, absolute) => relative.in_range() && absolute.in_range(),
+        QData::LeadIn(item, relative) => !flag && item_allowed(item) && relative.in_range(),
+        QData::CatalogNumber(n, frac) => is_catalog_number(n) && digits::two_digits(frac, 74),
     }
 }
 
@@ -136,7 +118,5 @@ fn data_allowed(flag: bool, q_data: QData) -> bool
 pub fn is_allowed(fields: Control) -> bool
     ensures { result ≡ allowed fields }
 {
-    let flag = fields.flag;
-    let q_data = fields.q_data;
-    data_allowed(flag, q_data)
+    data_allowed(fields.flag, fields.q_data)
 }

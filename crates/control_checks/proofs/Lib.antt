@@ -1,6 +1,4 @@
--- the q-Modes that are unknown
-pub mod Modes
--- two lists, one place a turn
+-- two slices by `==`
 pub mod Comparing
 -- what an answer of the writer says
 pub mod Made

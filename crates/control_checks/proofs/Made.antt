@@ -5,6 +5,7 @@ use mathlib.Core.Bool.{Bool, true, false, ◌&&◌}
 use mathlib.Core.List.{List, []}
 use Prim.Native.Nat.{ℕ}
 use native.Mathlib.Omega.{arith}
+use Rattle.std.specs.Prelude.{Result, Ok, Err, ⊤, is_ok}
 use borrow.Author.Tests.{eq-eqb}
 use lib.ListN.{length}
 use Rattle.outcome.specs.Say.{Say, done, refused, demand, Outcome, outcome}
@@ -12,7 +13,17 @@ use Rattle.lists.specs.Same.{same}
 use Rattle.control.specs.declared.Control.{Control}
 use Rattle.control.specs.Fields.{allowed}
 use Rattle.control.specs.Channels.{control_bytes}
-use Rattle.control_writer.specs.Writing.{writing}
+use Rattle.control_writer.specs.declared.WriteControlError.{WriteControlError}
+use Rattle.control_writer.specs.Writing.{refusal_of, say_of, writing}
+
+-- whether the bytes are written
+pub ok_says : (a : Result ⊤ WriteControlError) → is_ok a ≡ true → say_of a ≡ done []
+ok_says (Ok w) e = refl
+ok_says (Err x) e = absurd (let z : ◌≡◌ {A = ℕ} 0 1 = cc in omega arith)
+
+pub err_says : (a : Result ⊤ WriteControlError) → is_ok a ≡ false → (n : ℕ) × (say_of a ≡ refused n [])
+err_says (Ok w) e = absurd (let z : ◌≡◌ {A = ℕ} 0 1 = cc in omega arith)
+err_says (Err x) e = (refusal_of x, refl)
 
 module _ (f : Control) (old new bytes : List ℕ) (s : Say) (l : length old ≡ 96) (e : outcome s new ≡ writing f old) where
   says : s ≡ demand (allowed f) 18 (done [])

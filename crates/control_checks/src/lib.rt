@@ -7,32 +7,20 @@ ghost use Rattle.control.specs.Fields.{allowed};
 ghost use Rattle.control.specs.Channels.{control_bytes};
 
 use control::Control;
-use control_writer::ControlWritten;
 
 // A q-Mode other than 1 or 2.
 pub fn unknown_mode(mode: u8) -> bool
     ensures { result ≡ not (eqb mode 1 || eqb mode 2) }
 {
-    if mode == 0 {
-        return true;
-    }
-    2 < mode
+    !matches!(mode, 1 | 2)
 }
 
+// `==`, as `lists::specs::Same` has it. Bytes are compared and not fields, since p and w bits and the CRC are asked too.
+#[tactic(auto, using(crate::proofs::Comparing::pointwise_same))]
 fn same_bytes(a: &[u8], b: &[u8]) -> bool
     ensures { result ≡ same a.now b.now }
 {
-    if a.len() != b.len() {
-        return false;
-    }
-    let mut i: usize = 0;
-    while i < a.len() {
-        if a[i] != b[i] {
-            return false;
-        }
-        i += 1;
-    }
-    true
+    a == b
 }
 
 // Whether clause 22 allows the fields and these are their bytes.
@@ -40,9 +28,5 @@ pub fn is_written(fields: Control, bytes: &[u8]) -> bool
     ensures { result ≡ (allowed fields && same (control_bytes fields) bytes.now) }
 {
     let mut made = [0u8; 96];
-    match control_writer::write_control(fields, &mut made) {
-        ControlWritten::Done => same_bytes(&made, bytes),
-        ControlWritten::WrongOutgoing => false,
-        ControlWritten::NotAllowed => false,
-    }
+    control_writer::write_control(fields, &mut made).is_ok() && same_bytes(&made, bytes)
 }

@@ -1,7 +1,7 @@
 // The q-Data field of the q-channel in bytes (22.3.3 to 22.3.5).
 #![tactic(auto)]
 
-ghost use Rattle.std.specs.Prelude.{◌≡◌, ◌∷◌, ◌/◌, ◌%◌, ◌^◌, ◌<◌};
+ghost use Rattle.std.specs.Prelude.{◌≡◌, ◌∷◌};
 ghost use Rattle.control.specs.Channels.{item_fields};
 ghost use Rattle.control.specs.FieldBytes.{data_bytes};
 
@@ -20,14 +20,6 @@ fn item_bytes(first: u8, item: Item, t: ControlTime) -> [u8; 10]
     }
 }
 
-// A byte of a Catalog Number, above its lowest s bits.
-fn digits_at(n: u64, s: u32) -> u8
-    requires { s < 64 }
-    ensures { result ≡ n / 2 ^ s % 256 }
-{
-    ((n >> s) % 256) as u8
-}
-
 // Behind a first byte: the q-Data field.
 pub fn data_bytes(first: u8, q_data: QData) -> [u8; 10]
     ensures { result ≡ first ∷ data_bytes q_data }
@@ -38,17 +30,10 @@ pub fn data_bytes(first: u8, q_data: QData) -> [u8; 10]
         ],
         QData::LeadOut(t, at) => [first, 0xAA, 0x01, t.0, t.1, t.2, 0, at.0, at.1, at.2],
         QData::LeadIn(item, t) => item_bytes(first, item, t),
-        QData::CatalogNumber(n, frac) => [
-            first,
-            digits_at(n, 44),
-            digits_at(n, 36),
-            digits_at(n, 28),
-            digits_at(n, 20),
-            digits_at(n, 12),
-            digits_at(n, 4),
-            ((n % 16) as u8) * 16,
-            0,
-            frac,
-        ],
+        QData::CatalogNumber(n, frac) => {
+            // 52 bits, and twelve ZEROs
+            let [a, b, c, d, e, f, g, h] = (n % (1 << 52) << 12).to_be_bytes();
+            [first, a, b, c, d, e, f, g, h, frac]
+        }
     }
 }

@@ -3,17 +3,13 @@
 -- Assumes nothing.
 use Rattle.std.specs.Prelude.{Bool, cond, List, ℕ, ◌+◌, ◌*◌, ◌/◌, ◌%◌, eqb, get_or}
 use Rattle.control_time.specs.declared.ControlTime.{ControlTime}
-use Rattle.control.specs.declared.Copying.{Copying}
-use Rattle.control.specs.declared.Copying.TheVariants.{Forbidden, Permitted}
 use Rattle.control.specs.declared.Item.{Item}
 use Rattle.control.specs.declared.Item.TheVariants.{Track, FirstTrack, LastTrack, LeadOutTrack}
 use Rattle.control.specs.declared.QData.{QData}
 use Rattle.control.specs.declared.QData.TheVariants.{UserData, LeadOut, LeadIn, CatalogNumber}
 use Rattle.control.specs.declared.Control.{Control}
+use Rattle.control.specs.Channels.{copying_of}
 pub mod Back
-
-abbrev pub copying_in : ℕ → Copying
-copying_in field = cond (eqb field 6) Permitted Forbidden
 
 -- three bytes as a time
 abbrev pub time_in : ℕ → ℕ → ℕ → ControlTime
@@ -38,4 +34,4 @@ data_in mode q =
     (UserData (get_or q 1 0) (get_or q 2 0) (time_in (get_or q 3 0) (get_or q 4 0) (get_or q 5 0)) (time_in (get_or q 7 0) (get_or q 8 0) (get_or q 9 0)))))
 
 unfoldable pub fields_in : Bool → List ℕ → Control
-fields_in flag q = record { flag = flag; copying = copying_in (get_or q 0 0 / 16); q_data = data_in (get_or q 0 0 % 16) q }
+fields_in flag q = record { flag = flag; copying = copying_of (get_or q 0 0 / 16); q_data = data_in (get_or q 0 0 % 16) q }

@@ -1,12 +1,14 @@
 -- Two bytes of CRC against the last sixteen q bits.
 -- Assumes nothing.
 use mathlib.Core.Path.{◌≡◌, sym, ap, ◌∙◌}
-use mathlib.Core.Bool.{false}
+use mathlib.Core.Bool.{Bool}
 use mathlib.Core.List.{List, [], ◌∷◌}
 use Prim.Native.Nat.{ℕ, ◌-◌}
 use native.Mathlib.Omega.{arith}
-use borrow.Author.Tests.{eq-eqb, eqb-true}
-use lib.Dec.{eqb}
+use Rattle.std.specs.Prelude.{nat_eq}
+use Rattle.std.specs.Cmp.Lexicographic.{pointwise}
+use Rattle.std.proofs.lemmas.Bool.Decides.{Decides-eqb}
+use Rattle.std.proofs.lemmas.Slice.Eq.{slice_eq-Decides}
 use lib.ListN.{length, get_or, take, drop, length-drop}
 use lib.Seq.{drop-drop}
 use Rattle.bits.specs.Bits.{number, unpack, pack}
@@ -32,7 +34,7 @@ sixteen-one a b ha hb la lb p q =
     sym (unpack-pack 2 a ha la) ∙ ap unpack (λ i. p i ∷ q i ∷ []) ∙ unpack-pack 2 b hb lb
 
 module _ (bytes : List ℕ) (l : length bytes ≡ 96) (q c : List ℕ) (hq : q ≡ pack 10 (q_of bytes)) (hc : c ≡ pack 2 (crc (unpack q)))
-    (x y : ℕ) (hx : x ≡ number 0 (take 8 (drop 80 (q_of bytes)))) where
+    (x : ℕ) (hx : x ≡ number 0 (take 8 (drop 80 (q_of bytes)))) where
   qs : List ℕ
   qs = q_of bytes
 
@@ -51,25 +53,29 @@ module _ (bytes : List ℕ) (l : length bytes ≡ 96) (q c : List ℕ) (hq : q �
   unfolding second pack
   c_second = ap (λ (t : List ℕ). get_or t 1 0) c_is
 
-  pub first_differs : (get_or c 0 0 ≡ x → ⊥) → false ≡ crc_holds bytes
-  unfolding crc_holds made first
-  first_differs n =
-      same_is (drop 80 (q_of bytes)) made false (λ z. absurd (let e : ◌≡◌ {A = ℕ} 0 1 = cc in omega arith))
-      (λ e. absurd (n (c_first ∙ sym (hx ∙ ap first e))))
+  module _ (z : ℕ) (hz : z ≡ number 0 (take 8 (drop 88 (q_of bytes)))) where
+    last : z ≡ second (drop 80 (q_of bytes))
+    unfolding second
+    last = hz ∙ ap (λ (t : List ℕ). number 0 (take 8 t)) (sym (drop-drop 8 80 (q_of bytes)))
 
-  pub second_decides : get_or c 0 0 ≡ x → y ≡ number 0 (take 8 (drop 88 (q_of bytes))) → eqb (get_or c 1 0) y ≡ crc_holds bytes
-  unfolding crc_holds made first second
-  second_decides p hy =
-      let d : List ℕ = drop 80 (q_of bytes) in
-      let h : y ≡ second d = hy ∙ ap (λ (t : List ℕ). number 0 (take 8 t)) (sym (drop-drop 8 80 (q_of bytes))) in
-      let hm : Binary (take 80 (q_of bytes)) = binary_take 80 (q_of bytes) (binary_q_of bytes) in
-      same_is d made (eqb (get_or c 1 0) y)
-      (λ t.
-      sym
-      (sixteen-one made d (binary_crc (take 80 (q_of bytes)) hm) (binary_drop 80 (q_of bytes) (binary_q_of bytes)) (length-crc (take 80 (q_of bytes)) hm)
-      (length-drop 80 (q_of bytes) ∙ ninety_six)
-      (sym c_first ∙ p ∙ hx) (sym c_second ∙ eqb-true (get_or c 1 0) y t ∙ h)))
-      (λ e. eq-eqb (get_or c 1 0) y (c_second ∙ sym (h ∙ ap second e)))
-    where
-      ninety_six : length (q_of bytes) - 80 ≡ 16
-      ninety_six = omega (arith, length-q_of bytes)
+    both : drop 80 (q_of bytes) ≡ made → c ≡ x ∷ z ∷ []
+    unfolding first second pack
+    both e = c_is ∙ (λ i. sym (hx ∙ ap first e) i ∷ sym (last ∙ ap second e) i ∷ [])
+
+    bits : c ≡ x ∷ z ∷ [] → drop 80 (q_of bytes) ≡ made
+    unfolding made first
+    bits e =
+        let h : Binary (take 80 (q_of bytes)) = binary_take 80 (q_of bytes) (binary_q_of bytes) in
+        sym
+        (sixteen-one made (drop 80 (q_of bytes)) (binary_crc (take 80 (q_of bytes)) h) (binary_drop 80 (q_of bytes) (binary_q_of bytes)) (length-crc (take 80 (q_of bytes)) h)
+        (length-drop 80 (q_of bytes) ∙ ninety_six)
+        (sym c_first ∙ ap (λ (t : List ℕ). get_or t 0 0) e ∙ hx) (sym c_second ∙ ap (λ (t : List ℕ). get_or t 1 0) e ∙ last))
+      where
+        ninety_six : length (q_of bytes) - 80 ≡ 16
+        ninety_six = omega (arith, length-q_of bytes)
+
+    pub crc_decides : (r : Bool) → r ≡ pointwise nat_eq c (x ∷ z ∷ []) → r ≡ crc_holds bytes
+    unfolding crc_holds made
+    crc_decides r e =
+        let d = slice_eq-Decides Decides-eqb c (x ∷ z ∷ []) r e in
+        same_is (drop 80 (q_of bytes)) made r (λ t. bits (d.0 t)) (λ t. d.1 (both t))

@@ -1,8 +1,8 @@
 -- Reading the Control bytes of a Section (document 02, §3): 1, 16 the CRC, 17 a q-Mode other than 1 or 2, 18. Reading accepts exactly the bytes that clause 22 gives to
 -- some fields that it allows within one Section.
 -- Assumes nothing.
-use Rattle.std.specs.Prelude.{◌≡◌, Bool, true, false, ◌||◌, List, [], ◌∷◌, ℕ, ◌/◌, ◌%◌, eqb, length, take, drop}
-use Rattle.outcome.specs.Say.{Say, done, refused}
+use Rattle.std.specs.Prelude.{◌≡◌, Bool, true, false, ◌||◌, List, [], ◌∷◌, ℕ, Result, ◌/◌, ◌%◌, eqb, length, take, drop}
+use Rattle.outcome.specs.Say.{Say, done, refused, said_by}
 use Rattle.bits.specs.Bits.{number}
 use Rattle.lists.specs.Same.{same}
 use Rattle.crc.specs.Crc.{crc}
@@ -10,8 +10,8 @@ use Rattle.control.specs.declared.Control.{Control}
 use Rattle.control.specs.Fields.{allowed}
 use Rattle.control.specs.Channels.{control_bytes}
 use Rattle.control.specs.Values.{values_of}
-use Rattle.control_reader.specs.declared.ControlRead.{ControlRead}
-use Rattle.control_reader.specs.declared.ControlRead.TheVariants.{Read, WrongIncoming, WrongCrc, UnknownMode, NotAllowed}
+use Rattle.control_reader.specs.declared.ReadControlError.{ReadControlError}
+use Rattle.control_reader.specs.declared.ReadControlError.TheVariants.{WrongIncoming, WrongCrc, UnknownMode, NotAllowed}
 pub mod Exact
 pub mod One
 
@@ -37,10 +37,13 @@ pub data Reads (bytes : List ℕ) : Say → Type 0 where
       → ((f : Control) → allowed f ≡ true → control_bytes f ≡ bytes → ⊥) → Reads bytes (refused 18 [])
   read : (f : Control) → allowed f ≡ true → control_bytes f ≡ bytes → Reads bytes (done (values_of f))
 
--- document 02's number, and the fields, for each answer
-abbrev pub say_of : ControlRead → Say
-say_of (Read f) = done (values_of f)
-say_of WrongIncoming = refused 1 []
-say_of WrongCrc = refused 16 []
-say_of UnknownMode = refused 17 []
-say_of NotAllowed = refused 18 []
+-- document 02's number for each refusal
+abbrev pub refusal_of : ReadControlError → ℕ
+refusal_of WrongIncoming = 1
+refusal_of WrongCrc = 16
+refusal_of UnknownMode = 17
+refusal_of NotAllowed = 18
+
+-- what each answer says: the fields, or why there are none
+abbrev pub say_of : Result Control ReadControlError → Say
+say_of = said_by values_of refusal_of

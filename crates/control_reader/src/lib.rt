@@ -3,18 +3,31 @@
 
 ghost use Rattle.std.specs.Prelude.{◌≡◌, ◌+◌, ◌/◌, ◌%◌, ◌≤◌, length, take, drop};
 ghost use Rattle.bits.specs.Bits.{number, pack};
-ghost use Rattle.control_reader.specs.Reading.{q_of, crc_holds, say_of, Reads};
+ghost use Rattle.control_reader.specs.Reading.{q_of, crc_holds, refusal_of, say_of, Reads};
 
 use control::Control;
+use outcome::Refusal;
 
-// What reading answers.
-#[derive(Clone, Copy)]
-pub enum ControlRead {
-    Read(Control),
+// Why no fields are read.
+#[derive(Clone, Copy, Debug, PartialEq, Eq)]
+pub enum ReadControlError {
     WrongIncoming,
     WrongCrc,
     UnknownMode,
     NotAllowed,
+}
+
+impl Refusal for ReadControlError {
+    ghost refusal_of = { refusal_of };
+
+    fn number(self) -> u8 {
+        match self {
+            ReadControlError::WrongIncoming => 1,
+            ReadControlError::WrongCrc => 16,
+            ReadControlError::UnknownMode => 17,
+            ReadControlError::NotAllowed => 18,
+        }
+    }
 }
 
 // The q bit of a Control byte.
@@ -29,11 +42,9 @@ fn q_byte(bytes: &[u8], at: usize) -> u8
     requires { at + 8 ≤ length bytes.now }
     ensures { result ≡ number 0 (take 8 (drop at (q_of bytes.now))) }
 {
-    let mut n: u8 = 0;
-    let mut j: usize = 0;
-    while j < 8 {
+    let mut n = 0;
+    for j in 0..8 {
         n = n * 2 + q_bit(bytes[at + j]);
-        j += 1;
     }
     n
 }
@@ -43,18 +54,11 @@ fn field_bytes(bytes: &[u8]) -> [u8; 10]
     requires { length bytes.now ≡ 96 }
     ensures { result ≡ pack 10 (q_of bytes.now) }
 {
-    [
-        q_byte(bytes, 0),
-        q_byte(bytes, 8),
-        q_byte(bytes, 16),
-        q_byte(bytes, 24),
-        q_byte(bytes, 32),
-        q_byte(bytes, 40),
-        q_byte(bytes, 48),
-        q_byte(bytes, 56),
-        q_byte(bytes, 64),
-        q_byte(bytes, 72),
-    ]
+    let mut fields = [0; 10];
+    for (i, field) in fields.iter_mut().enumerate() {
+        *field = q_byte(bytes, 8 * i);
+    }
+    fields
 }
 
 // Whether the CRC field is that of the fields before it.
@@ -62,31 +66,27 @@ fn crc_right(bytes: &[u8], q: &[u8; 10]) -> bool
     requires { (length bytes.now ≡ 96) × (q.now ≡ pack 10 (q_of bytes.now)) }
     ensures { result ≡ crc_holds bytes.now }
 {
-    let c = crc::parity(q);
-    if c[0] != q_byte(bytes, 80) {
-        return false;
-    }
-    c[1] == q_byte(bytes, 88)
+    crc::parity(q) == [q_byte(bytes, 80), q_byte(bytes, 88)]
 }
 
 // 96 Control bytes become fields. The CRC is looked at before any field.
-pub fn read_control(bytes: &[u8]) -> ControlRead
+pub fn read_control(bytes: &[u8]) -> Result<Control, ReadControlError>
     ensures { Reads bytes.now (say_of result) }
 {
     if bytes.len() != 96 {
-        return ControlRead::WrongIncoming;
+        return Err(ReadControlError::WrongIncoming);
     }
     let q = field_bytes(bytes);
     if !crc_right(bytes, &q) {
-        return ControlRead::WrongCrc;
+        return Err(ReadControlError::WrongCrc);
     }
     if control_checks::unknown_mode(q[0] % 16) {
-        return ControlRead::UnknownMode;
+        return Err(ReadControlError::UnknownMode);
     }
     let flag = bytes[0] / 128 == 1;
     let fields = control_fields::fields_in(flag, &q);
     if !control_checks::is_written(fields, bytes) {
-        return ControlRead::NotAllowed;
+        return Err(ReadControlError::NotAllowed);
     }
-    ControlRead::Read(fields)
+    Ok(fields)
 }

@@ -13,26 +13,14 @@ fn bit(b: u8, j: u32) -> u8
     (b >> (7 - j)) % 2
 }
 
-// The p bit (22.2).
-fn p_bit(flag: bool) -> u8
-    ensures { result ≡ p_bit flag }
-{
-    if flag {
-        return 1;
-    }
-    0
-}
-
-// Each bit becomes the q bit of a Control byte, beside the p bit.
+// Each bit becomes the q bit of a Control byte, beside the p bit. A loop, since what `array::from_fn` asks of such a closure found no proof.
 pub fn spread(flag: bool, bytes: [u8; 12]) -> [u8; 96]
     ensures { result ≡ framed (p_bit flag) (unpack bytes) }
 {
-    let p = p_bit(flag);
-    let mut out = [0u8; 96];
-    let mut k: usize = 0;
-    while k < 96 {
-        out[k] = p * 128 + bit(bytes[k / 8], (k % 8) as u32) * 64;
-        k += 1;
+    let p = u8::from(flag);
+    let mut out = [0; 96];
+    for (k, byte) in out.iter_mut().enumerate() {
+        *byte = p * 128 + bit(bytes[k / 8], (k % 8) as u32) * 64;
     }
     out
 }

@@ -6,7 +6,7 @@ ghost use Rattle.std.specs.Prelude.{◌≡◌, ltb};
 ghost use Rattle.control_time.specs.Elapsed.{in_range, elapsed};
 
 // Three fields of the q-channel as they stand: MIN, SEC and FRAC.
-#[derive(Clone, Copy)]
+#[derive(Clone, Copy, Debug, PartialEq, Eq)]
 pub struct ControlTime(pub u8, pub u8, pub u8);
 
 impl ControlTime {
@@ -18,19 +18,17 @@ impl ControlTime {
     }
 
     // Whether each field is in range.
+    #[tactic(auto, unfolding(crate::specs::Elapsed::in_range))]
     pub fn in_range(self) -> bool
         ensures { result ≡ in_range self }
     {
-        if !digits::two_digits(self.0, 99) {
-            return false;
-        }
-        if !digits::two_digits(self.1, 59) {
-            return false;
-        }
-        digits::two_digits(self.2, 74)
+        digits::two_digits(self.0, 99)
+            && digits::two_digits(self.1, 59)
+            && digits::two_digits(self.2, 74)
     }
 
     // The time in 75ths of a second, of which each is a Section.
+    #[tactic(auto, unfolding(crate::specs::Elapsed::elapsed))]
     fn elapsed(self) -> u32
         ensures { result ≡ elapsed self }
     {

@@ -2,17 +2,13 @@
 -- Assumes nothing.
 use Rattle.std.specs.Prelude.{cond, List, ℕ, eqb, get_or}
 use Rattle.control_time.specs.declared.ControlTime.{ControlTime}
-use Rattle.control.specs.declared.Copying.{Copying}
-use Rattle.control.specs.declared.Copying.TheVariants.{Forbidden, Permitted}
 use Rattle.control.specs.declared.Item.{Item}
 use Rattle.control.specs.declared.Item.TheVariants.{Track, FirstTrack, LastTrack, LeadOutTrack}
 use Rattle.control.specs.declared.QData.{QData}
 use Rattle.control.specs.declared.QData.TheVariants.{UserData, LeadOut, LeadIn, CatalogNumber}
 use Rattle.control.specs.declared.Control.{Control}
+use Rattle.control.specs.Channels.{copying_of}
 pub mod One
-
-abbrev pub copying_given : ℕ → Copying
-copying_given field = cond (eqb field 6) Permitted Forbidden
 
 abbrev pub relative_given : List ℕ → ControlTime
 relative_given f = record { 0 = get_or f 6 0; 1 = get_or f 7 0; 2 = get_or f 8 0 }
@@ -32,4 +28,4 @@ data_given digits f =
     (cond (eqb (get_or f 2 0) 1) (LeadOut (relative_given f) (other_given f)) (UserData (get_or f 4 0) (get_or f 5 0) (relative_given f) (other_given f))))
 
 unfoldable pub fields_given : ℕ → List ℕ → Control
-fields_given digits f = record { flag = eqb (get_or f 0 0) 1; copying = copying_given (get_or f 1 0); q_data = data_given digits f }
+fields_given digits f = record { flag = eqb (get_or f 0 0) 1; copying = copying_of (get_or f 1 0); q_data = data_given digits f }

@@ -3,85 +3,55 @@
 
 ghost use Rattle.std.specs.Prelude.{◌≡◌, [], ◌∷◌};
 ghost use Rattle.outcome.specs.Say.{outcome};
-ghost use Rattle.told.specs.Told.{number_of, placed, Tells, Told};
-ghost use Rattle.control.specs.Channels.{control_field, p_bit};
+ghost use Rattle.told.specs.Told.{placed, Tells, Told};
 ghost use Rattle.control.specs.Values.{item_values, data_values, values_of};
 ghost use Rattle.control_writer.specs.Writing as writes;
 ghost use Rattle.control_reader.specs.Reading as reads;
-ghost use Rattle.control_told.specs.Given.{copying_given, item_given, data_given, fields_given};
+ghost use Rattle.control_told.specs.Given.{item_given, data_given, fields_given};
 
 use control::{Control, Copying, Item, QData};
-use control_reader::ControlRead;
+use control_reader::ReadControlError;
 use control_time::ControlTime;
-use control_writer::ControlWritten;
+use outcome::Refusal;
 
 // ---- fields in
 
-fn copying_given(field: u8) -> Copying
-    ensures { result ≡ copying_given field }
-{
-    if field == 6 {
-        return Copying::Permitted;
-    }
-    Copying::Forbidden
-}
-
+// The kinds come from C as numbers of which none is refused (`item_given`, `data_given` in specs/), so they are matched here and no `TryFrom` stands between.
+#[tactic(auto, unfolding(crate::specs::Given::item_given))]
 fn item_given(f: &[u8; 12]) -> Item
     ensures { result ≡ item_given f.now }
 {
-    let kind = f[3];
-    let n = f[4];
-    if kind == 1 {
-        return Item::FirstTrack(n);
-    }
-    if kind == 2 {
-        return Item::LastTrack(n);
-    }
     let at = ControlTime::new(f[9], f[10], f[11]);
-    if kind == 3 {
-        return Item::LeadOutTrack(at);
+    match f[3] {
+        1 => Item::FirstTrack(f[4]),
+        2 => Item::LastTrack(f[4]),
+        3 => Item::LeadOutTrack(at),
+        _ => Item::Track(f[4], at),
     }
-    Item::Track(n, at)
 }
 
+#[tactic(auto, unfolding(crate::specs::Given::data_given))]
 fn data_given(digits: u64, f: &[u8; 12]) -> QData
     ensures { result ≡ data_given digits f.now }
 {
-    let kind = f[2];
-    if kind == 3 {
-        return QData::CatalogNumber(digits, f[5]);
-    }
     let relative = ControlTime::new(f[6], f[7], f[8]);
-    if kind == 2 {
-        let item = item_given(f);
-        return QData::LeadIn(item, relative);
-    }
     let absolute = ControlTime::new(f[9], f[10], f[11]);
-    if kind == 1 {
-        return QData::LeadOut(relative, absolute);
+    match f[2] {
+        3 => QData::CatalogNumber(digits, f[5]),
+        2 => QData::LeadIn(item_given(f), relative),
+        1 => QData::LeadOut(relative, absolute),
+        _ => QData::UserData(f[4], f[5], relative, absolute),
     }
-    QData::UserData(f[4], f[5], relative, absolute)
 }
 
+#[tactic(auto, unfolding(crate::specs::Given::fields_given))]
 fn fields_given(digits: u64, f: &[u8; 12]) -> Control
     ensures { result ≡ fields_given digits f.now }
 {
-    let copying = copying_given(f[1]);
-    let q_data = data_given(digits, f);
     Control {
         flag: f[0] == 1,
-        copying: copying,
-        q_data: q_data,
-    }
-}
-
-fn tell_written(a: ControlWritten) -> u8
-    ensures { result ≡ number_of (writes.say_of a) }
-{
-    match a {
-        ControlWritten::Done => 0,
-        ControlWritten::WrongOutgoing => 2,
-        ControlWritten::NotAllowed => 18,
+        copying: Copying::from(f[1]),
+        q_data: data_given(digits, f),
     }
 }
 
@@ -90,29 +60,10 @@ fn tell_written(a: ControlWritten) -> u8
 pub fn write(digits: u64, f: &[u8; 12], out: &mut [u8]) -> u8
     ensures { Told 0 (λ say. outcome say out.new ≡ writes.writing (fields_given digits f.now) out.old) result [] }
 {
-    let fields = fields_given(digits, f);
-    tell_written(control_writer::write_control(fields, out))
+    told::number(control_writer::write_control(fields_given(digits, f), out))
 }
 
 // ---- fields out
-
-fn field_value(copying: Copying) -> u64
-    ensures { result ≡ control_field copying }
-{
-    match copying {
-        Copying::Forbidden => 4,
-        Copying::Permitted => 6,
-    }
-}
-
-fn flag_value(flag: bool) -> u64
-    ensures { result ≡ p_bit flag }
-{
-    if flag {
-        return 1;
-    }
-    0
-}
 
 fn item_values(p: u64, c: u64, t: ControlTime, item: Item) -> [u64; 11]
     ensures { result ≡ placed 11 (p ∷ c ∷ 2 ∷ t.0 ∷ t.1 ∷ t.2 ∷ item_values item) }
@@ -190,27 +141,17 @@ fn data_values(p: u64, c: u64, q_data: QData) -> [u64; 11]
 fn values_of(fields: Control) -> [u64; 11]
     ensures { result ≡ placed 11 (values_of fields) }
 {
-    let flag = fields.flag;
-    let copying = fields.copying;
-    let q_data = fields.q_data;
-    let p = flag_value(flag);
-    let c = field_value(copying);
-    data_values(p, c, q_data)
+    let p = u64::from(fields.flag);
+    let c = u64::from(u8::from(fields.copying));
+    data_values(p, c, fields.q_data)
 }
 
-fn tell_read(a: ControlRead, values: &mut [u64; 11]) -> u8
-    ensures { Tells 11 (reads.say_of a) result values.new }
+fn tell_read(answer: Result<Control, ReadControlError>, values: &mut [u64; 11]) -> u8
+    ensures { Tells 11 (reads.say_of answer) result values.new }
 {
-    *values = [0, 0, 0, 0, 0, 0, 0, 0, 0, 0, 0];
-    match a {
-        ControlRead::Read(fields) => {
-            *values = values_of(fields);
-            0
-        }
-        ControlRead::WrongIncoming => 1,
-        ControlRead::WrongCrc => 16,
-        ControlRead::UnknownMode => 17,
-        ControlRead::NotAllowed => 18,
+    match answer {
+        Ok(fields) => told::tell(0, values_of(fields), values),
+        Err(e) => told::tell(e.number(), [0; 11], values),
     }
 }
 

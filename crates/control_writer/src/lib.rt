@@ -1,31 +1,32 @@
 // Writing the 96 Control bytes of a Section (clause 22).
 #![tactic(auto)]
 
-ghost use Rattle.std.specs.Prelude.{◌≡◌, ◌+◌, ◌*◌, ◌∷◌, ◌++◌, length};
+ghost use Rattle.std.specs.Prelude.{◌≡◌, ◌+◌, ◌*◌, ◌∷◌};
 ghost use Rattle.outcome.specs.Say.{outcome};
 ghost use Rattle.bits.specs.Bits.{unpack};
 ghost use Rattle.control.specs.Channels.{control_field, q_mode};
 ghost use Rattle.control.specs.FieldBytes.{data_bytes};
 ghost use Rattle.control_writer.specs.Inner.Coded.{coded};
-ghost use Rattle.control_writer.specs.Writing.{say_of, writing};
+ghost use Rattle.control_writer.specs.Writing.{refusal_of, say_of, writing};
 
 use control::{Control, Copying, QData};
+use outcome::Refusal;
 
-// What writing answers.
-#[derive(Clone, Copy)]
-pub enum ControlWritten {
-    Done,
+// Why no Control bytes are written.
+#[derive(Clone, Copy, Debug, PartialEq, Eq)]
+pub enum WriteControlError {
     WrongOutgoing,
     NotAllowed,
 }
 
-// The Control field (22.3.1).
-fn control_field(copying: Copying) -> u8
-    ensures { result ≡ control_field copying }
-{
-    match copying {
-        Copying::Forbidden => 0b0100,
-        Copying::Permitted => 0b0110,
+impl Refusal for WriteControlError {
+    ghost refusal_of = { refusal_of };
+
+    fn number(self) -> u8 {
+        match self {
+            WriteControlError::WrongOutgoing => 2,
+            WriteControlError::NotAllowed => 18,
+        }
     }
 }
 
@@ -34,10 +35,8 @@ fn q_mode(q_data: QData) -> u8
     ensures { result ≡ q_mode q_data }
 {
     match q_data {
-        QData::UserData(_, _, _, _) => 1,
-        QData::LeadOut(_, _) => 1,
-        QData::LeadIn(_, _) => 1,
-        QData::CatalogNumber(_, _) => 2,
+        QData::UserData(..) | QData::LeadOut(..) | QData::LeadIn(..) => 1,
+        QData::CatalogNumber(..) => 2,
     }
 }
 
@@ -45,45 +44,33 @@ fn q_mode(q_data: QData) -> u8
 fn field_bytes(copying: Copying, q_data: QData) -> [u8; 10]
     ensures { result ≡ (control_field copying * 16 + q_mode q_data) ∷ data_bytes q_data }
 {
-    let first = control_field(copying) * 16 + q_mode(q_data);
+    let first = u8::from(copying) * 16 + q_mode(q_data);
     control_data::data_bytes(first, q_data)
-}
-
-// Ten bytes and then two.
-fn joined(f: &[u8; 10], c: &[u8; 2]) -> [u8; 12]
-    requires { (length f.now ≡ 10) × (length c.now ≡ 2) }
-    ensures { result ≡ f.now ++ c.now }
-{
-    [
-        f[0], f[1], f[2], f[3], f[4], f[5], f[6], f[7], f[8], f[9], c[0], c[1],
-    ]
 }
 
 // The q-channel: the fields, and the CRC over them (22.3.6).
 fn q_bytes(copying: Copying, q_data: QData) -> [u8; 12]
     ensures { unpack result ≡ coded ((control_field copying * 16 + q_mode q_data) ∷ data_bytes q_data) }
 {
-    let f = field_bytes(copying, q_data);
-    let c = crc::parity(&f);
-    joined(&f, &c)
+    let fields = field_bytes(copying, q_data);
+    let mut q = [0; 12];
+    q[..10].copy_from_slice(&fields);
+    q[10..].copy_from_slice(&crc::parity(&fields));
+    q
 }
 
 // The fields become 96 Control bytes.
-pub fn write_control(fields: Control, out: &mut [u8]) -> ControlWritten
+pub fn write_control(fields: Control, out: &mut [u8]) -> Result<(), WriteControlError>
     ensures { outcome (say_of result) out.new ≡ writing fields out.old }
 {
     if out.len() != 96 {
-        return ControlWritten::WrongOutgoing;
+        return Err(WriteControlError::WrongOutgoing);
     }
     if !control::is_allowed(fields) {
-        outcome::clear(out);
-        return ControlWritten::NotAllowed;
+        out.fill(0);
+        return Err(WriteControlError::NotAllowed);
     }
-    let flag = fields.flag;
-    let copying = fields.copying;
-    let q_data = fields.q_data;
-    let q = q_bytes(copying, q_data);
-    let made = control_spread::spread(flag, q);
-    outcome::copy(&made, out);
-    ControlWritten::Done
+    let q = q_bytes(fields.copying, fields.q_data);
+    out.copy_from_slice(&control_spread::spread(fields.flag, q));
+    Ok(())
 }

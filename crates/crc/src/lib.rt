@@ -10,6 +10,7 @@ ghost use Rattle.crc.specs.Inner.Register.{step, steps};
 const LOWER: u16 = 0x1021;
 
 // One line of the division, with the remainder's 16 coefficients as a number.
+#[tactic(auto, unfolding(crate::specs::Inner::Register::step))]
 fn bring(r: u16, c: u8) -> u16
     requires { c < 2 }
     ensures { result ≡ step r c }
@@ -21,26 +22,17 @@ fn bring(r: u16, c: u8) -> u16
 fn bring_byte(r: u16, b: u8) -> u16
     ensures { result ≡ steps r (bits_of 8 b) }
 {
-    let r1 = bring(r, b / 128 % 2);
-    let r2 = bring(r1, b / 64 % 2);
-    let r3 = bring(r2, b / 32 % 2);
-    let r4 = bring(r3, b / 16 % 2);
-    let r5 = bring(r4, b / 8 % 2);
-    let r6 = bring(r5, b / 4 % 2);
-    let r7 = bring(r6, b / 2 % 2);
-    bring(r7, b % 2)
+    let mut r = r;
+    for j in (0..8u32).rev() {
+        r = bring(r, (b >> j) % 2);
+    }
+    r
 }
 
 fn divide(bytes: &[u8]) -> u16
     ensures { result ≡ steps 0 (unpack bytes.now) }
 {
-    let mut r: u16 = 0;
-    let mut i: usize = 0;
-    while i < bytes.len() {
-        r = bring_byte(r, bytes[i]);
-        i += 1;
-    }
-    r
+    bytes.iter().fold(0, |r, b| bring_byte(r, *b))
 }
 
 // The two bytes of the CRC field for the bytes before it.
@@ -48,6 +40,5 @@ pub fn parity(bytes: &[u8]) -> [u8; 2]
     ensures { result ≡ pack 2 (crc (unpack bytes.now)) }
 {
     let r = bring_byte(bring_byte(divide(bytes), 0), 0);
-    let inverted = 65535 - r;
-    [(inverted / 256) as u8, (inverted % 256) as u8]
+    (!r).to_be_bytes()
 }

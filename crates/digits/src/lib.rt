@@ -14,16 +14,11 @@ pub fn value(b: u8) -> u32
 }
 
 // Two decimal digits that make a number of at most `top`.
+#[tactic(auto, unfolding(crate::specs::Digits::two_digits))]
 pub fn two_digits(b: u8, top: u8) -> bool
     ensures { result ≡ two_digits top b }
 {
     let tens = b / 16;
     let ones = b % 16;
-    if tens >= 10 {
-        return false;
-    }
-    if ones >= 10 {
-        return false;
-    }
-    tens * 10 + ones <= top
+    tens < 10 && ones < 10 && tens * 10 + ones <= top
 }

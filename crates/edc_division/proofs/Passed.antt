@@ -104,5 +104,9 @@ module _ {bytes : List ℕ} {i r : ℕ} (p : Passed bytes i r) where
       ∙ ap (λ (n : ℕ). steps n (number_low_first (remainder (bits (take i bytes))) + number_low_first (part 1) * 2 ^ 32)) (sym (length_part 1 l))
       ∙ sym (remainder-append (bits (take i bytes)) (part 1) (coefs_bits (take 1 (drop i bytes)))))
 
+  -- the same place by another name
+  pub passed_so : {k : ℕ} → i ≡ k → Passed bytes k r
+  passed_so {k} e = subst (λ (n : ℕ). Passed bytes n r) e p
+
   pub passed_all : length bytes ≤ i → r ≡ number_low_first (remainder (bits bytes))
   passed_all h = p.is ∙ ap (λ (l : List ℕ). number_low_first (remainder (bits l))) (take_all i bytes h)

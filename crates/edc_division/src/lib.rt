@@ -7,22 +7,20 @@ ghost use Rattle.edc.specs.Edc.{remainder, edc, is_zero};
 ghost use Rattle.edc.specs.Rows.{rows};
 
 use edc_steps::{advance, take_byte};
-use four_bytes::{bytes_of, number_at};
+use four_bytes::bytes_of;
 
 // Four bytes a turn, and the last ones one by one.
 fn divide(t: &[u32; 1024], bytes: &[u8]) -> u32
     requires { t.now ≡ rows }
     ensures { result ≡ number_low_first (remainder (bits bytes.now)) }
 {
+    let (words, last) = bytes.as_chunks::<4>();
     let mut r: u32 = 0;
-    let mut i = 0;
-    while 4 <= bytes.len() - i {
-        r = number_at(bytes, i) ^ advance(t, r);
-        i += 4;
+    for word in words {
+        r = u32::from_le_bytes(*word) ^ advance(t, r);
     }
-    while i < bytes.len() {
-        r = take_byte(t, r, bytes[i]);
-        i += 1;
+    for byte in last {
+        r = take_byte(t, r, *byte);
     }
     r
 }

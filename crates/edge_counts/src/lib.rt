@@ -1,7 +1,7 @@
 // The counts of a capture and the distance of two of them (document 02, §5).
 #![tactic(auto)]
 
-ghost use Rattle.std.specs.Prelude.{◌≡◌, ◌+◌, ◌*◌, slice_index};
+ghost use Rattle.std.specs.Prelude.{◌≡◌, slice_index};
 ghost use Rattle.captures.specs.Counts.{counts_of, distance};
 ghost use Rattle.captures.specs.Kept.{right_capture};
 
@@ -9,20 +9,7 @@ ghost use Rattle.captures.specs.Kept.{right_capture};
 pub fn is_capture(capture: &[u8]) -> bool
     ensures { result ≡ right_capture capture.now }
 {
-    if capture.len() % 2 != 0 {
-        return false;
-    }
-    if capture.len() > 65536 {
-        return false;
-    }
-    true
-}
-
-// A count of two bytes.
-fn joined(high: u8, low: u8) -> u16
-    ensures { result ≡ 256 * high + low }
-{
-    256 * (high as u16) + low as u16
+    capture.len() % 2 == 0 && capture.len() <= 65536
 }
 
 // The count of edge i, high byte first, or 0 where there is no such edge.
@@ -32,12 +19,12 @@ pub fn count_at(capture: &[u8], i: usize) -> u16
     if capture.len() / 2 <= i {
         return 0;
     }
-    joined(capture[2 * i], capture[2 * i + 1])
+    u16::from_be_bytes([capture[2 * i], capture[2 * i + 1]])
 }
 
 // The distance of two edges: the count wraps.
 pub fn ticks(last: u16, count: u16) -> u16
     ensures { result ≡ distance last count }
 {
-    std::num::wrapping_sub_u16(count, last)
+    count.wrapping_sub(last)
 }

@@ -4,25 +4,18 @@
 ghost use Rattle.std.specs.Prelude.{◌≡◌};
 ghost use Rattle.edges.specs.Steps.{step_at};
 
-// The run from an edge to the next, in ticks, or that there is no next.
-#[derive(Clone, Copy)]
-pub enum Step {
-    Run(u16),
-    End,
-}
-
-// The run from edge `at` of a capture.
-pub fn run_at(capture: &[u8], at: usize) -> Step
+// The run from edge `at` of a capture to the next, in ticks, or that there is no next.
+pub fn run_at(capture: &[u8], at: usize) -> Option<u16>
     ensures { result ≡ step_at capture.now at }
 {
     let edges = capture.len() / 2;
     if edges <= at {
-        return Step::End;
+        return None;
     }
     if edges <= at + 1 {
-        return Step::End;
+        return None;
     }
     let last = edge_counts::count_at(capture, at);
     let count = edge_counts::count_at(capture, at + 1);
-    Step::Run(edge_counts::ticks(last, count))
+    Some(edge_counts::ticks(last, count))
 }

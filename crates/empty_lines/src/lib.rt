@@ -7,28 +7,22 @@ ghost use Rattle.text.specs.Report.{time_text};
 ghost use Rattle.empty_lines.specs.Listed.{found_in};
 
 use address::HeaderTime;
-use judge::Judged;
 use numerals::hex_digit;
 
-// What is found of a Sector: it is empty, with its address, or it is another.
-#[derive(Clone, Copy)]
-pub enum Found {
-    Empty(HeaderTime),
-    Other,
-}
+// The mode of an empty Sector.
+const EMPTY_MODE: u8 = 0;
 
-// Judging decides: a Sector is empty if it passes with mode 00.
-pub fn find(sector: &[u8]) -> Found
+// The address of a Sector, if it is empty. Judging decides: a Sector is empty if it passes with mode 00.
+pub fn find(sector: &[u8]) -> Option<HeaderTime>
     ensures { result ≡ found_in sector.now }
 {
-    let judged = judge::judge(sector);
-    let Judged::Passed(mode, time) = judged else {
-        return Found::Other;
+    let Ok(passed) = judge::judge(sector) else {
+        return None;
     };
-    if mode == 0 {
-        return Found::Empty(time);
+    if passed.mode == EMPTY_MODE {
+        return Some(passed.time);
     }
-    Found::Other
+    None
 }
 
 // A line with an address alone.

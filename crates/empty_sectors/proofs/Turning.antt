@@ -1,13 +1,15 @@
 -- From turn to turn.
 -- Assumes nothing.
 use Rattle.std.proofs.Common.{◌≡◌, refl, sym, ap, ◌∙◌, subst, Bool, true, false, List, [], ◌∷◌, ◌++◌, ℕ, ◌+◌, ◌<◌, length, length-append, arith}
+use mathlib.Core.Bool.{false≢true}
+use Rattle.std.specs.Prelude.{Option, Some, None, is_some}
 use Rattle.input_reading.specs.declared.Filled.{Filled}
-use Rattle.input_reading.specs.declared.Read.{Read}
-use Rattle.input_reading.specs.declared.Read.TheVariants.{Failed, End, More}
+use Rattle.input_reading.specs.declared.Stop.{Stop}
 use Rattle.input_reading.specs.Reading.{StoppedAt, Fills}
-use Rattle.empty_lines.specs.declared.Found.{Found}
+use Rattle.address.specs.declared.HeaderTime.{HeaderTime}
 use Rattle.empty_sectors.specs.declared.Stand.{Stand}
-use Rattle.empty_sectors.specs.declared.Stand.TheVariants.{Going, Stopped}
+use Rattle.empty_sectors.specs.declared.Stand.TheVariants.{Going, Stopped, WriteFailed}
+use Rattle.fate_counts.specs.Counting.{largest}
 use Rattle.empty_lines.specs.Listed.{found_in, line_of}
 use Rattle.empty_sectors.specs.Run.{after_line, Turn, tells, stops, unwritten, begins, goes, Counted, Reached}
 use Rattle.empty_sectors.specs.Inner.Turns.{Sayable, Turned}
@@ -15,7 +17,7 @@ use Rattle.empty_sectors.specs.Inner.Turns.{Sayable, Turned}
 -- ---- one turn
 
 -- the line of what is found of a Sector
-pub sayable : (s line : List ℕ) (f found : Found) → length s ≡ 2352 → f ≡ found_in s → f ≡ found → line ≡ line_of found → Sayable line
+pub sayable : (s line : List ℕ) (f found : Option HeaderTime) → length s ≡ 2352 → f ≡ found_in s → f ≡ found → line ≡ line_of found → Sayable line
 sayable s line f found l e p q =
     record { read = s ∷ []; turn = subst (λ (x : List ℕ). Turn (s ∷ []) x Going) (sym (q ∙ ap line_of (sym p ∙ e))) (tells s l) }
 
@@ -24,15 +26,14 @@ pub said : {line : List ℕ} (w : Bool) (s : Stand) → Sayable line → s ≡ a
 said true s h e = subst (λ (x : Stand). Turned x) (sym e) (record { read = h.read; line = _; turn = h.turn })
 said false s h e = subst (λ (x : Stand). Turned x) (sym e) (record { read = h.read; line = _; turn = unwritten 0 h.turn })
 
-short : (room have : ℕ) (last : Read) → StoppedAt room have last → ((n : ℕ) → last ≡ More n → ⊥) → have < room
-short room have (More n) h k = absurd (k n refl)
-short room have End h k = h
-short room have Failed h k = h
+short : (room have : ℕ) (stop : Option Stop) → StoppedAt room have stop → is_some stop ≡ true → have < room
+short room have None h k = absurd (false≢true k)
+short room have (Some stop) h k = h
 
 -- a read that brought nothing ends it
-pub stopped : (room : ℕ) (f : Filled) → room ≡ 2352 → Fills room f → ((n : ℕ) → f.last ≡ More n → ⊥) → Turned (Stopped f)
+pub stopped : (room : ℕ) (f : Filled) → room ≡ 2352 → Fills room f → is_some f.stop ≡ true → Turned (Stopped f)
 stopped room f l h k =
-    let less = short room f.have f.last h k in
+    let less = short room f.have f.stop h k in
     record {
       read = [];
       line = [];
@@ -59,3 +60,9 @@ one_more n {s} {t} e r h =
       run = goes g.run h.turn;
       counted = subst (λ (m : ℕ). Counted (m + 1) (g.sectors ++ h.read) t) g.counted (one-turn g.sectors h.turn);
     }
+
+-- a turn that ends the program ends all of them
+pub over : {n : ℕ} (s : Stand) → (s ≡ Going → ⊥) → Reached n s → Reached largest s
+over Going k r = absurd (k refl)
+over (Stopped f) k r = record { sectors = r.sectors; text = r.text; run = r.run; counted = tt }
+over WriteFailed k r = record { sectors = r.sectors; text = r.text; run = r.run; counted = tt }

@@ -6,8 +6,7 @@ ghost use Rattle.std.specs.Prelude.{◌≡◌, length};
 ghost use Rattle.empty_sectors.specs.Run.{after_line, Ended};
 ghost use Rattle.empty_sectors.specs.Inner.Turns.{Sayable, Turned};
 
-use empty_lines::Found;
-use input_reading::{Filled, Read};
+use input_reading::{Filled, Stop};
 use std::io;
 
 // Where the program stands: between two Sectors; ended by a read that brought nothing, with so many bytes of a Sector before it; or ended by
@@ -42,12 +41,13 @@ fn tell(rt: &impl Print, sector: &[u8]) -> Stand
     requires { length sector.now ≡ 2352 }
     ensures { Turned result }
 {
-    let found = empty_lines::find(sector);
-    let Found::Empty(time) = found else {
-        return say(rt, b"");
-    };
-    let line = empty_lines::address_line(time);
-    say(rt, &line)
+    match empty_lines::find(sector) {
+        Some(time) => {
+            let line = empty_lines::address_line(time);
+            say(rt, &line)
+        }
+        None => say(rt, b""),
+    }
 }
 
 // Reads one Sector, and prints its line.
@@ -56,10 +56,9 @@ fn turn<R: io::Read>(rt: &impl Print, input: &mut R, sector: &mut [u8]) -> Stand
     ensures { Turned result }
 {
     let filled = input_reading::fill(input, sector);
-    let last = filled.last;
-    let Read::More(_) = last else {
+    if filled.stop.is_some() {
         return Stand::Stopped(filled);
-    };
+    }
     tell(rt, sector)
 }
 
@@ -68,32 +67,26 @@ fn turns<R: io::Read>(rt: &impl Print, input: &mut R) -> Stand
     ensures { Ended result }
 {
     let mut sector = sector::blank();
-    let mut stand = Stand::Going;
-    let mut made: u64 = 0;
-    while made < u64::MAX {
+    for _made in 0..u64::MAX {
+        let stand = turn(rt, input, &mut sector);
         let Stand::Going = stand else {
             return stand;
         };
-        stand = turn(rt, input, &mut sector);
-        made += 1;
     }
-    stand
+    Stand::Going
 }
 
 // Says on standard error how many bytes were left over, or that reading failed.
 fn complain_of_input(rt: &impl Eprint, filled: Filled) {
-    let last = filled.last;
-    match last {
-        Read::More(_) => {}
-        Read::End => {
-            if filled.have != 0 {
-                let have = filled.have;
-                let _ = eprintln!(rt; "empties: tail {have}");
-            }
+    match filled.stop {
+        Some(Stop::End) if filled.have != 0 => {
+            let have = filled.have;
+            let _ = eprintln!(rt; "empties: tail {have}");
         }
-        Read::Failed => {
+        Some(Stop::Failed) => {
             let _ = rt.eprintln("empties: standard input could not be read");
         }
+        _ => {}
     }
 }
 

@@ -1,27 +1,27 @@
 // What an entry answers that takes a Sector's 2,352 bytes and gives 2,352.
 #![tactic(auto)]
 
-ghost use Rattle.std.specs.Prelude.{◌≡◌};
-ghost use Rattle.told.specs.Told.{number_of};
-ghost use Rattle.entry.specs.Entry.{say_of};
+ghost use Rattle.entry.specs.Entry.{refusal_of};
+
+use outcome::Refusal;
 
 // The bytes of a Sector, and so of its 98 frames of 24.
 pub const SECTOR: usize = 2352;
 
-#[derive(Clone, Copy)]
-pub enum Answer {
-    Done,
+// Why nothing is made.
+#[derive(Clone, Copy, Debug, PartialEq, Eq)]
+pub enum EntryError {
     WrongIncoming,
     WrongOutgoing,
 }
 
-// Its number, for callers in other languages.
-pub fn number(a: Answer) -> u8
-    ensures { result ≡ number_of (say_of a) }
-{
-    match a {
-        Answer::Done => 0,
-        Answer::WrongIncoming => 1,
-        Answer::WrongOutgoing => 2,
+impl Refusal for EntryError {
+    ghost refusal_of = { refusal_of };
+
+    fn number(self) -> u8 {
+        match self {
+            EntryError::WrongIncoming => 1,
+            EntryError::WrongOutgoing => 2,
+        }
     }
 }

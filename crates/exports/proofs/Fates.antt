@@ -5,23 +5,23 @@ use mathlib.Core.List.{List}
 use Prim.Native.Nat.{ℕ, ◌+◌, ◌<◌, ◌≤◌}
 use native.Mathlib.Omega.{arith}
 use lib.ListN.{length, get_or, set, length-map, get_or-map}
+use Rattle.std.specs.Prelude.{Ok}
 use Rattle.outcome.specs.Buffer.{Filling}
 use Rattle.outcome.specs.Buffer.Filled.{filling-none, filling_more, filling_all}
 use Rattle.repair.specs.Repair as single
-use Rattle.repair.specs.declared.Repaired.TheVariants.{HandedOut}
-use Rattle.batch.specs.declared.SectorFate.{SectorFate}
+use Rattle.batch.specs.Batch.{SectorFate}
 use Rattle.told.specs.Told.{number_of}
 use Rattle.exports.specs.Batches.{changed_in, numbers_of, changed_of}
 
 -- what the code's rules take for a fate behind the end
 abbrev behind : SectorFate
-behind = record { repaired = HandedOut 0 }
+behind = Ok 0
 
 abbrev number_in : SectorFate → ℕ
-number_in f = number_of (single.say_of f.repaired)
+number_in f = number_of (single.say_of f)
 
 abbrev changes_in : SectorFate → ℕ
-changes_in f = changed_in (single.say_of f.repaired)
+changes_in f = changed_in (single.say_of f)
 
 -- i of them are told
 pub record Telling (fates : List SectorFate) (m c : List ℕ) (i : ℕ) (numbers changed : List ℕ) : Type 0 where

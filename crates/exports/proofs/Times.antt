@@ -3,13 +3,14 @@
 use mathlib.Core.Path.{◌≡◌, refl, subst}
 use mathlib.Core.List.{List, []}
 use Prim.Native.Nat.{ℕ}
+use Rattle.std.specs.Prelude.{⊤, Result}
 use Rattle.address.specs.declared.HeaderTime.{HeaderTime}
 use Rattle.writer.specs.Write.{Writes, say_of}
-use Rattle.writer.specs.declared.Written.{Written}
+use Rattle.writer.specs.declared.WriteError.{WriteError}
 use Rattle.carrying.specs.Carry.{Carries}
 use Rattle.told.specs.Told.{number_of, Told}
 
-pub written_at : {mode x : ℕ} {t u : HeaderTime} {user old new : List ℕ} (a : Written) → t ≡ u → Writes mode t user old (say_of a) new
+pub written_at : {mode x : ℕ} {t u : HeaderTime} {user old new : List ℕ} (a : Result ⊤ WriteError) → t ≡ u → Writes mode t user old (say_of a) new
     → x ≡ number_of (say_of a) → Told 0 (λ say. Writes mode u user old say new) x []
 written_at {mode} {user = user} {old = old} {new = new} a e p h =
     record {

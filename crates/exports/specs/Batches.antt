@@ -3,8 +3,7 @@
 use Rattle.std.specs.Prelude.{◌≡◌, List, map, ℕ, get_or}
 use Rattle.outcome.specs.Say.{Say}
 use Rattle.repair.specs.Repair as single
-use Rattle.batch.specs.declared.SectorFate.{SectorFate}
-use Rattle.batch.specs.Batch.{RepairsMany}
+use Rattle.batch.specs.Batch.{SectorFate, RepairsMany}
 use Rattle.told.specs.Told.{number_of, values_of}
 pub mod One
 
@@ -13,10 +12,10 @@ abbrev pub changed_in : Say → ℕ
 changed_in say = get_or (values_of say) 0 0
 
 abbrev pub numbers_of : List SectorFate → List ℕ
-numbers_of fates = map (λ (f : SectorFate). number_of (single.say_of f.repaired)) fates
+numbers_of fates = map (λ (f : SectorFate). number_of (single.say_of f)) fates
 
 abbrev pub changed_of : List SectorFate → List ℕ
-changed_of fates = map (λ (f : SectorFate). changed_in (single.say_of f.repaired)) fates
+changed_of fates = map (λ (f : SectorFate). changed_in (single.say_of f)) fates
 
 -- some fates that the batch allows are told
 pub record ManyTold (r old : List ℕ) (say : Say) (numbers changed new : List ℕ) : Type 0 where

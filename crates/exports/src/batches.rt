@@ -5,31 +5,26 @@ ghost use Rattle.repair.specs.Repair as single;
 ghost use Rattle.told.specs.Told.{number_of, Tells, Told};
 ghost use Rattle.exports.specs.Batches.{changed_in, numbers_of, changed_of, ManyTold};
 
-use batch::{Answer, SectorFate};
-use repair::Repaired;
-use told::tell_one;
+use batch::{BatchError, SectorFate};
+use outcome::Refusal;
 
 // The number of what a single repair says.
-fn number(a: Repaired) -> u64
-    ensures { result ≡ number_of (single.say_of a) }
+fn number(fate: SectorFate) -> u64
+    ensures { result ≡ number_of (single.say_of fate) }
 {
-    match a {
-        Repaired::HandedOut(_) => 0,
-        Repaired::WrongIncoming => 1,
-        Repaired::WrongOutgoing => 2,
-        Repaired::NoSectorNear => 5,
+    match fate {
+        Ok(_) => 0,
+        Err(e) => e.number() as u64,
     }
 }
 
 // The count of changed bytes, and 0 where it is refused.
-fn changed_bytes(a: Repaired) -> u64
-    ensures { result ≡ changed_in (single.say_of a) }
+fn changed_bytes(fate: SectorFate) -> u64
+    ensures { result ≡ changed_in (single.say_of fate) }
 {
-    match a {
-        Repaired::HandedOut(count) => count as u64,
-        Repaired::WrongIncoming => 0,
-        Repaired::WrongOutgoing => 0,
-        Repaired::NoSectorNear => 0,
+    match fate {
+        Ok(count) => count as u64,
+        Err(_) => 0,
     }
 }
 
@@ -38,26 +33,21 @@ fn tell_fates(fates: [SectorFate; 16], numbers: &mut [u64; 16], changed: &mut [u
 {
     let mut by_number = [0u64; 16];
     let mut by_count = [0u64; 16];
-    let mut i: usize = 0;
-    while i < 16 {
-        let fate = fates[i];
-        let answer = fate.repaired;
-        by_number[i] = number(answer);
-        by_count[i] = changed_bytes(answer);
-        i += 1;
+    for (i, fate) in fates.iter().enumerate() {
+        by_number[i] = number(*fate);
+        by_count[i] = changed_bytes(*fate);
     }
     *numbers = by_number;
     *changed = by_count;
 }
 
 // With a batch that is done comes the count of its Sectors.
-fn tell(a: Answer, count: &mut [u64; 1]) -> u8
+fn tell(a: Result<usize, BatchError>, count: &mut [u64; 1]) -> u8
     ensures { Tells 1 (many.say_of a) result count.new }
 {
     match a {
-        Answer::Done(n) => tell_one(0, n as u64, count),
-        Answer::WrongIncoming => tell_one(1, 0, count),
-        Answer::WrongOutgoing => tell_one(2, 0, count),
+        Ok(n) => told::tell(0, [n as u64], count),
+        Err(e) => told::tell(e.number(), [0], count),
     }
 }
 
@@ -73,8 +63,6 @@ pub extern "C" fn road_repair_many(
     ensures { Told 1 (λ say. ManyTold received.now out.old say numbers.new changed.new out.new) result count.new }
 {
     let batch = batch::repair_many(received, out);
-    let fates = batch.fates;
-    tell_fates(fates, numbers, changed);
-    let answer = batch.answer;
-    tell(answer, count)
+    tell_fates(batch.fates, numbers, changed);
+    tell(batch.answer, count)
 }

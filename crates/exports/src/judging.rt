@@ -1,35 +1,31 @@
 // Judging a Sector.
-ghost use Rattle.std.specs.Prelude.{◌≡◌};
-ghost use Rattle.judge.specs.Judging.{judging, say_of};
+ghost use Rattle.std.specs.Prelude.{◌≡◌, get_or};
+ghost use Rattle.judge.specs.Judging.{judging, values_with, say_of};
 ghost use Rattle.told.specs.Told.{Tells, Told};
 
-use judge::Judged;
+use judge::{JudgeError, Passed};
+use outcome::Refusal;
+
+// The number of the codeword that fails, and 0 where none does.
+fn codeword(e: JudgeError) -> u64
+    ensures { result ≡ get_or (values_with e) 0 0 }
+{
+    match e {
+        JudgeError::WrongP(n) | JudgeError::WrongQ(n) => n as u64,
+        _ => 0,
+    }
+}
 
 // With a Sector that passes come its mode and address, with a codeword that fails its number.
-fn tell(a: Judged, values: &mut [u64; 4]) -> u8
+fn tell(a: Result<Passed, JudgeError>, values: &mut [u64; 4]) -> u8
     ensures { Tells 4 (say_of a) result values.new }
 {
-    *values = [0, 0, 0, 0];
     match a {
-        Judged::Passed(mode, time) => {
-            *values = [mode as u64, time.0 as u64, time.1 as u64, time.2 as u64];
-            0
+        Ok(Passed { mode, time }) => {
+            let address = [mode as u64, time.0 as u64, time.1 as u64, time.2 as u64];
+            told::tell(0, address, values)
         }
-        Judged::WrongIncoming => 1,
-        Judged::UnknownMode => 3,
-        Judged::WrongAddress => 4,
-        Judged::WrongSync => 10,
-        Judged::WrongEdc => 11,
-        Judged::WrongIntermediate => 12,
-        Judged::WrongP(n) => {
-            *values = [n as u64, 0, 0, 0];
-            13
-        }
-        Judged::WrongQ(n) => {
-            *values = [n as u64, 0, 0, 0];
-            14
-        }
-        Judged::WrongFiller => 15,
+        Err(e) => told::tell(e.number(), [codeword(e), 0, 0, 0], values),
     }
 }
 

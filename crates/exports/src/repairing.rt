@@ -2,18 +2,16 @@
 ghost use Rattle.repair.specs.Repair.{Repairs, say_of};
 ghost use Rattle.told.specs.Told.{Tells, Told};
 
-use repair::Repaired;
-use told::tell_one;
+use outcome::Refusal;
+use repair::RepairError;
 
 // With a Sector that is handed out comes the count of changed bytes.
-fn tell(a: Repaired, changed: &mut [u64; 1]) -> u8
+fn tell(a: Result<usize, RepairError>, changed: &mut [u64; 1]) -> u8
     ensures { Tells 1 (say_of a) result changed.new }
 {
     match a {
-        Repaired::HandedOut(count) => tell_one(0, count as u64, changed),
-        Repaired::WrongIncoming => tell_one(1, 0, changed),
-        Repaired::WrongOutgoing => tell_one(2, 0, changed),
-        Repaired::NoSectorNear => tell_one(5, 0, changed),
+        Ok(count) => told::tell(0, [count as u64], changed),
+        Err(e) => told::tell(e.number(), [0], changed),
     }
 }
 

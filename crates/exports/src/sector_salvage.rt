@@ -3,19 +3,16 @@ ghost use Rattle.salvaging.specs.Salvage.{Salvages};
 ghost use Rattle.salvage.specs.Answers.{say_of};
 ghost use Rattle.told.specs.Told.{Tells, Told};
 
-use salvage::Salvaged;
-use told::tell_two;
+use outcome::Refusal;
+use salvage::{SalvageError, Salvaged};
 
 // With a Sector that is handed out come the number of passes used and the count of changes.
-fn tell(a: Salvaged, values: &mut [u64; 2]) -> u8
-    ensures { Tells 2 (say_of a) result values.new }
+fn tell(answer: Result<Salvaged, SalvageError>, values: &mut [u64; 2]) -> u8
+    ensures { Tells 2 (say_of answer) result values.new }
 {
-    match a {
-        Salvaged::HandedOut(passes, count) => tell_two(0, passes as u64, count as u64, values),
-        Salvaged::WrongIncoming => tell_two(1, 0, 0, values),
-        Salvaged::WrongOutgoing => tell_two(2, 0, 0, values),
-        Salvaged::WrongPasses => tell_two(22, 0, 0, values),
-        Salvaged::NoneCorrect => tell_two(5, 0, 0, values),
+    match answer {
+        Ok(salvaged) => told::tell(0, [salvaged.passes as u64, salvaged.changes as u64], values),
+        Err(e) => told::tell(e.number(), [0, 0], values),
     }
 }
 

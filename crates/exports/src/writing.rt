@@ -1,22 +1,9 @@
 // Writing a Sector.
 ghost use Rattle.std.specs.Prelude.{◌≡◌, []};
-ghost use Rattle.writer.specs.Write.{Writes, say_of};
-ghost use Rattle.told.specs.Told.{number_of, Told};
+ghost use Rattle.writer.specs.Write.{Writes};
+ghost use Rattle.told.specs.Told.{Told};
 
 use address::HeaderTime;
-use writer::Written;
-
-fn tell(a: Written) -> u8
-    ensures { result ≡ number_of (say_of a) }
-{
-    match a {
-        Written::Done => 0,
-        Written::WrongIncoming => 1,
-        Written::WrongOutgoing => 2,
-        Written::UnwrittenMode => 3,
-        Written::WrongAddress => 4,
-    }
-}
 
 #[unsafe(no_mangle)]
 pub extern "C" fn road_write(
@@ -29,5 +16,5 @@ pub extern "C" fn road_write(
 ) -> u8
     ensures { Told 0 (λ say. Writes mode (record { 0 = minute; 1 = second; 2 = frame }) user.now out.old say out.new) result [] }
 {
-    tell(writer::write(mode, HeaderTime::new(minute, second, frame), user, out))
+    told::number(writer::write(mode, HeaderTime::new(minute, second, frame), user, out))
 }

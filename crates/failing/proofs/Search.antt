@@ -1,12 +1,15 @@
 -- The search for the first codeword that fails: the sums of a codeword byte by byte, what they say of it, and where the search ends.
 -- Assumes nothing.
 use mathlib.Core.Path.{◌≡◌, refl, sym, ap, ◌∙◌}
-use mathlib.Core.Bool.{Bool, true, false, not}
+use mathlib.Core.Bool.{Bool, true, false, not, false≢true}
 use mathlib.Core.List.{List}
 use Prim.Native.Nat.{ℕ, zero, suc, ◌+◌, ◌≤◌, ◌<◌}
 use native.Mathlib.Omega.{arith}
+use borrow.Author.Tests.{eq-eqb, ne_eqb, eqb-true}
 use lib.Bits.{bit_xor}
+use lib.Dec.{eqb}
 use lib.ListN.{length, get_or, take}
+use Rattle.std.specs.Prelude.{Some, None}
 use Rattle.outcome.specs.Bytes.{Bytes}
 use Rattle.outcome.specs.Bytes.Kept.{bytes_take}
 use Rattle.outcome.specs.First.{first_below}
@@ -16,6 +19,10 @@ use Rattle.field.specs.Field.Product.{mul-power-suc}
 use Rattle.codeword.specs.Code.{sum, Codeword}
 use Rattle.codeword.specs.Nearest.{is_codeword}
 use Rattle.codeword.specs.Code.NearOne.{code_of_test, test_of_code}
+use Rattle.rspc.specs.Either.{words_of}
+use Rattle.rspc.specs.declared.Parity.{Parity}
+use Rattle.failing.specs.Failing.{failing, first_failing}
+use Rattle.failing.specs.Failing.First.{first_is, none_is}
 use Rattle.codeword.specs.Code.Sums.{sum_lt, sum-none, sum_step, sum_all, times_0}
 
 -- the sums of the first r bytes of w
@@ -47,10 +54,8 @@ module _ (w : List ℕ) {r s0 s1 : ℕ} (g : Summing w r s0 s1) where
     second_all = g.second ∙ sum_all 1 w r (omega arith)
 
     -- with both sums 0 it doesn't fail
-    pub passes : s0 ≡ 0 → s1 ≡ 0 → not (is_codeword 2 w) ≡ true → ⊥
-    passes p q f =
-        let t : is_codeword 2 w ≡ true = test_of_code 2 w code in
-        let z : ◌≡◌ {A = ℕ} 0 1 = cc in omega arith
+    passes : s0 ≡ 0 → s1 ≡ 0 → not (is_codeword 2 w) ≡ false
+    passes p q = ap not (test_of_code 2 w code)
       where
         code : Codeword 2 w
         code zero h = sym first_all ∙ p
@@ -65,20 +70,32 @@ module _ (w : List ℕ) {r s0 s1 : ℕ} (g : Summing w r s0 s1) where
         go false e = refl
 
     -- with one that isn't, it does
-    pub fails_first : (s0 ≡ 0 → ⊥) → not (is_codeword 2 w) ≡ true
-    fails_first n = fails (λ c. n (first_all ∙ c 0 (omega arith)))
+    pub answers_first : (s0 ≡ 0 → ⊥) → not (eqb s0 0) ≡ not (is_codeword 2 w)
+    answers_first n = ap not (ne_eqb s0 0 n) ∙ sym (fails (λ c. n (first_all ∙ c 0 (omega arith))))
 
-    pub fails_second : (s1 ≡ 0 → ⊥) → not (is_codeword 2 w) ≡ true
-    fails_second n = fails (λ c. n (second_all ∙ c 1 (omega arith)))
+    pub answers_second : s0 ≡ 0 → not (eqb s1 0) ≡ not (is_codeword 2 w)
+    answers_second p = go (eqb s1 0) refl
+      where
+        go : (b : Bool) → eqb s1 0 ≡ b → not (eqb s1 0) ≡ not (is_codeword 2 w)
+        go true e = ap not e ∙ sym (passes p (eqb-true s1 0 e))
+        go false e =
+            ap not e ∙ sym (fails (λ c. false≢true (sym e ∙ eq-eqb s1 0 (second_all ∙ c 1 (omega arith)))))
 
 -- nothing below n fails
 abbrev pub NoneBelow : (ℕ → Bool) → ℕ → Type 0
 NoneBelow f n = (k : ℕ) → k < n → f k ≡ true → ⊥
 
--- the search ends at one that fails, or past the last
-pub ends_at : (f : ℕ → Bool) (n bound : ℕ) → n < bound → NoneBelow f n → f n ≡ true → n ≡ first_below f bound
-ends_at f n bound l h e = found_first f bound n (record { within = omega arith; before = h; holds = λ _. e })
+module _ (parity : Parity) (s : List ℕ) (n : ℕ) (before : NoneBelow (failing parity s) n) where
+  -- the search ends at one that fails, or past the last
+  pub ends_at : n < words_of parity → failing parity s n ≡ true → Some n ≡ first_failing parity s
+  ends_at l e =
+      let at : n ≡ first_below (failing parity s) (words_of parity)
+      = found_first (failing parity s) (words_of parity) n (record { within = omega arith; before = before; holds = λ _. e }) in
+      ap (λ (k : ℕ). Some k) at ∙ first_is parity s (omega (arith, at))
 
-pub ends_past : (f : ℕ → Bool) (n bound : ℕ) → bound ≤ n → NoneBelow f n → bound ≡ first_below f bound
-ends_past f n bound l h =
-    found_first f bound bound (record { within = omega arith; before = λ k m. h k (omega arith); holds = λ m. absurd (omega arith) })
+  pub ends_past : words_of parity ≤ n → None ≡ first_failing parity s
+  ends_past l =
+      let past : words_of parity ≡ first_below (failing parity s) (words_of parity)
+      = found_first (failing parity s) (words_of parity) (words_of parity)
+      (record { within = omega arith; before = λ k m. before k (omega arith); holds = λ m. absurd (omega arith) }) in
+      none_is parity s (omega (arith, past))

@@ -7,21 +7,22 @@ ghost use Rattle.fate.specs.Fated.{fate_from};
 
 use address::HeaderTime;
 use fate_counts::Fate;
-use repair::Repaired;
+use outcome::Refusal;
+use repair::RepairError;
 
 // The byte at a place, and 0 behind the end.
 fn byte_at(s: &[u8], i: usize) -> u8
     ensures { result ≡ get_or s.now i 0 }
 {
-    if i < s.len() { s[i] } else { 0 }
+    s.get(i).copied().unwrap_or(0)
 }
 
 // Clean or repaired with the time handed out, or refused: what repair answered, with what it left in the Sector's place.
-pub fn fate_of(answer: Repaired, handed: &[u8]) -> Fate
+pub fn fate_of(answer: Result<usize, RepairError>, handed: &[u8]) -> Fate
     ensures { result ≡ fate_from (say_of answer) handed.now }
 {
     match answer {
-        Repaired::HandedOut(changed) => {
+        Ok(changed) => {
             let minute = byte_at(handed, 12);
             let second = byte_at(handed, 13);
             let time = HeaderTime::new(minute, second, byte_at(handed, 14));
@@ -30,8 +31,6 @@ pub fn fate_of(answer: Repaired, handed: &[u8]) -> Fate
             }
             Fate::Repaired(time, changed as u64)
         }
-        Repaired::WrongIncoming => Fate::Refused(1),
-        Repaired::WrongOutgoing => Fate::Refused(2),
-        Repaired::NoSectorNear => Fate::Refused(5),
+        Err(e) => Fate::Refused(e.number() as u64),
     }
 }

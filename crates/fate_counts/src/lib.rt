@@ -27,7 +27,7 @@ pub struct Counts {
 fn one_more(n: u64) -> u64
     ensures { result ≡ one_more_of n }
 {
-    if n < u64::MAX { n + 1 } else { n }
+    n.saturating_add(1)
 }
 
 impl Counts {

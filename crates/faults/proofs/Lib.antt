@@ -1,3 +1,2 @@
-pub mod Listed
 pub mod Search
 pub mod Faults

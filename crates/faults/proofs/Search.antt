@@ -2,23 +2,25 @@
 -- Assumes nothing.
 use mathlib.Core.Path.{◌≡◌, sym, ap, ◌∙◌}
 use mathlib.Core.Bool.{Bool, true}
-use mathlib.Core.List.{List, [], ◌∷◌}
-use Prim.Native.Nat.{ℕ, zero, suc, ◌+◌, ◌*◌, ◌≤◌, ◌<◌}
+use mathlib.Core.List.{List}
+use Prim.Native.Nat.{ℕ, ◌+◌, ◌*◌, ◌≤◌, ◌<◌}
 use native.Mathlib.Nat.{mul-zero, mul-suc}
 use native.Mathlib.Numerals.{add-one}
 use native.Mathlib.Omega.{arith}
 use borrow.Author.Count.{below_more}
 use borrow.Author.Tests.{eq-eqb}
 use lib.Dec.{eqb, eqb→eq}
-use lib.ListN.{length, get_or}
+use lib.ListN.{length, get_or, replicate}
+use Rattle.std.proofs.lemmas.List.{length-replicate, get_or-replicate}
+use lib.Seq.{ext_get_or}
 use Rattle.outcome.specs.First.{first_below}
 use Rattle.outcome.specs.First.Found.{found_first}
-use Rattle.outcome.specs.Table.{all_below}
-use Rattle.outcome.specs.Table.Entries.{below, all_below_lem, true_of, of_true}
+use Rattle.outcome.specs.Table.{tabulated, all_below}
+use Rattle.outcome.specs.Table.Entries.{below, all_below_lem, true_of, of_true, length-tabulated, tabulated-at}
 use Rattle.field.specs.Field.{power, mul}
 use Rattle.field.specs.Field.Product.{mul-power-add}
 use Rattle.codeword.specs.Fault.{fits}
-use Rattle.codeword.specs.Code.Sums.{times_0, times_none}
+use Rattle.codeword.specs.Code.Sums.{times_0}
 
 -- ---- a search that has passed the numbers below m
 
@@ -36,8 +38,8 @@ module _ {f : ℕ → Bool} {k m : ℕ} (p : Passed f k m) where
   pub found_here : m < k → f m ≡ true → m ≡ first_below f k
   found_here h e = found_first f k m (record { within = p.within; before = p.before; holds = λ _. e })
 
-  pub found_none : k ≤ m → m ≡ first_below f k
-  found_none h = found_first f k m (record { within = p.within; before = p.before; holds = λ l. absurd (omega arith) })
+  pub found_none : k ≤ m → k ≡ first_below f k
+  found_none h = found_first f k k (record { within = omega arith; before = λ n l. p.before n (omega arith); holds = λ l. absurd (omega arith) })
 
 -- ---- x α^(jm), from m to m + 1
 
@@ -61,26 +63,40 @@ module _ (s : List ℕ) (m : ℕ) where
       true_of (all_below (fit s m) (length s))
       (all_below_lem (fit s m) (length s) (λ j h. of_true (fit s m j) (eq-eqb (get_or s j 0) (mul (get_or s 0 0) (power (j * m))) (e j h))))
 
-  pub fits_not : (j : ℕ) {t : ℕ} → j < length s → t ≡ mul (get_or s 0 0) (power (j * m)) → (t ≡ get_or s j 0 → ⊥) → fits s m ≡ true → ⊥
+-- ---- what each sum would be, of a word in which the byte that m bytes come after is wrong
+
+abbrev pub expected : List ℕ → ℕ → List ℕ
+expected s m = tabulated (λ j. mul (get_or s 0 0) (power (j * m))) 0 (length s)
+
+module _ (s : List ℕ) (m : ℕ) where
+  pub length-expected : length (expected s m) ≡ length s
+  length-expected = length-tabulated (λ j. mul (get_or s 0 0) (power (j * m))) 0 (length s)
+
+  pub expected-at : (j : ℕ) → j < length s → get_or (expected s m) j 0 ≡ mul (get_or s 0 0) (power (j * m))
+  expected-at = tabulated-at (λ j. mul (get_or s 0 0) (power (j * m))) (length s)
+
+  -- the sums fit where they are as expected, and nowhere else
+  pub fits_expected : expected s m ≡ s → fits s m ≡ true
+  fits_expected e = fits_all s m (λ j h. ap (λ (l : List ℕ). get_or l j 0) (sym e) ∙ expected-at j h)
+
+  pub fits-unexpected : (expected s m ≡ s → ⊥) → fits s m ≡ true → ⊥
   unfolding fits fit
-  fits_not j h p n e =
-      n (p ∙ sym (eqb→eq (get_or s j 0) (mul (get_or s 0 0) (power (j * m))) (below (fit s m) (length s) (of_true (all_below (fit s m) (length s)) e) j h)))
+  fits-unexpected n e =
+      n (ext_get_or 0 (expected s m) s length-expected
+      (λ j l.
+      let h : j < length s = omega (arith, length-expected) in
+      expected-at j h
+      ∙ sym (eqb→eq (get_or s j 0) (mul (get_or s 0 0) (power (j * m))) (below (fit s m) (length s) (of_true (all_below (fit s m) (length s)) e) j h))))
 
-pub fits-two : (s0 s1 m : ℕ) {t1 : ℕ} → t1 ≡ mul s0 (power (1 * m)) → t1 ≡ s1 → fits (s0 ∷ s1 ∷ []) m ≡ true
-fits-two s0 s1 m p e = fits_all (s0 ∷ s1 ∷ []) m each
-  where
-    each : (j : ℕ) → j < 2 → get_or (s0 ∷ s1 ∷ []) j 0 ≡ mul s0 (power (j * m))
-    each zero h = sym (times_none s0 m)
-    each (suc zero) h = sym e ∙ p
-    each (suc (suc j)) h = absurd (omega arith)
+-- at first they are all the first sum
+pub expected_none : (s : List ℕ) (n x : ℕ) → length s ≡ n → x ≡ get_or s 0 0 → replicate n x ≡ expected s 0
+expected_none s n x l e =
+    ext_get_or 0 (replicate n x) (expected s 0) (length-replicate n x ∙ sym l ∙ sym (length-expected s 0))
+    (λ j k.
+    let h : j < n = omega (arith, length-replicate n x) in
+    get_or-replicate n j x 0 h ∙ e ∙ weighted_none j (get_or s 0 0) ∙ sym (expected-at s 0 j (omega arith)))
 
-pub fits-four : (s0 s1 s2 s3 m : ℕ) {t1 t2 t3 : ℕ} → t1 ≡ mul s0 (power (1 * m)) → t2 ≡ mul s0 (power (2 * m)) → t3 ≡ mul s0 (power (3 * m))
-    → t1 ≡ s1 → t2 ≡ s2 → t3 ≡ s3 → fits (s0 ∷ s1 ∷ s2 ∷ s3 ∷ []) m ≡ true
-fits-four s0 s1 s2 s3 m p1 p2 p3 e1 e2 e3 = fits_all (s0 ∷ s1 ∷ s2 ∷ s3 ∷ []) m each
-  where
-    each : (j : ℕ) → j < 4 → get_or (s0 ∷ s1 ∷ s2 ∷ s3 ∷ []) j 0 ≡ mul s0 (power (j * m))
-    each zero h = sym (times_none s0 m)
-    each (suc zero) h = sym e1 ∙ p1
-    each (suc (suc zero)) h = sym e2 ∙ p2
-    each (suc (suc (suc zero))) h = sym e3 ∙ p3
-    each (suc (suc (suc (suc j)))) h = absurd (omega arith)
+-- and each goes on by its own power of α
+pub expected_more : (s : List ℕ) (m j : ℕ) {t u : ℕ} → get_or s 0 0 < 256 → j < length s → t ≡ get_or (expected s m) j 0 → u ≡ mul t (power j)
+    → u ≡ get_or (expected s (m + 1)) j 0
+expected_more s m j h l p q = weighted_more j m (get_or s 0 0) h (p ∙ expected-at s m j l) q ∙ sym (expected-at s (m + 1) j l)

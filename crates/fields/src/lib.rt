@@ -8,7 +8,7 @@ ghost use Rattle.fields.specs.Packed.{field_read};
 fn joined(a: u8, b: u8, c: u8) -> u64
     ensures { (result ≡ (a * 256 + b) * 256 + c) × (result < 16777216) }
 {
-    ((a as u64) * 256 + (b as u64)) * 256 + (c as u64)
+    (u64::from(a) * 256 + u64::from(b)) * 256 + u64::from(c)
 }
 
 // The number of n bits from bit p on; 0 where they don't lie in three bytes that are there, the first of which has bit p.
@@ -17,10 +17,7 @@ pub fn field(packed: &[u8], p: usize, n: u32) -> u64
 {
     let i = p / 8;
     let j = (p % 8) as u32;
-    if i + 2 >= packed.len() {
-        return 0;
-    }
-    if n > 24 - j {
+    if i + 2 >= packed.len() || n > 24 - j {
         return 0;
     }
     let x = joined(packed[i], packed[i + 1], packed[i + 2]);

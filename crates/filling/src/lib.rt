@@ -9,9 +9,10 @@ ghost use Rattle.filling.specs.Fill.{Fills};
 use generator::is_codeword;
 use lost_errors::add_errors;
 use mark_counts::count_marked;
-use word_sums::four_sums;
+use word_sums::sums;
 
 // The longest word with which only one codeword can agree: below α^255 no two powers of α are equal.
+// It stands in each of three crates, whose wrong program turns it there.
 const LONGEST: usize = 255;
 
 // Four sums tell up to four lost bytes.
@@ -23,7 +24,7 @@ fn fill_word(marks: &[u8], word: &mut [u8]) -> bool
     ensures { (result ≡ is_codeword 4 (filling marks.now word.old))
         × (word.new ≡ cond result (filling marks.now word.old) word.old) }
 {
-    let s = four_sums(word);
+    let s = sums::<4>(word);
     add_errors(marks, s, word);
     if is_codeword(word) {
         return true;

@@ -1,10 +1,12 @@
 -- A search from 0 on, number by number, that stops at the first that passes a test.
 -- Assumes nothing.
 use mathlib.Core.Path.{◌≡◌, subst}
-use mathlib.Core.Bool.{Bool, true, false}
+use mathlib.Core.Bool.{Bool, true}
 use mathlib.Core.Logic.{◌⊎◌, inl, inr}
 use Prim.Native.Nat.{ℕ, ◌+◌, ◌≤◌, ◌<◌}
 use native.Mathlib.Omega.{arith}
+use Rattle.std.proofs.Common.{Option, Some, None}
+use Rattle.std.specs.Option.{MatchOption}
 use Rattle.outcome.specs.First.{first_below}
 use Rattle.outcome.specs.First.Found.{lt-or-le, found_first}
 
@@ -30,6 +32,12 @@ module _ {g : ℕ → Bool} {m i : ℕ} (p : Passed g m i) where
   pub passed_all : m ≤ i → i ≡ first_below g m
   passed_all h = found_first g m i (record { within = p.upto; before = p.none; holds = λ l. absurd (omega arith) })
 
--- a test that was false does not hold
-pub refuted : (r s : Bool) → r ≡ s → r ≡ false → s ≡ true → ⊥
-refuted r s e f t = let z : ◌≡◌ {A = ℕ} 0 1 = cc in omega arith
+-- what the library's search from 0 on says
+pub searched : (g : ℕ → Bool) (m : ℕ) (r : Option ℕ)
+    → MatchOption r ((k : ℕ) → 0 ≤ k → k < m → g k ≡ true → ⊥)
+    (λ i. (0 ≤ i) × (i < m) × (g i ≡ true) × ((k : ℕ) → 0 ≤ k → k < i → g k ≡ true → ⊥))
+    → MatchOption r (m ≤ first_below g m) (λ i. (i ≡ first_below g m) × (i < m))
+searched g m None h =
+    omega (arith, passed_all {g = g} {m = m} {i = m} (record { upto = omega arith; none = λ k l. h k (omega arith) l }) (omega arith))
+searched g m (Some i) (z, l, y, b) =
+    (passed_found (record { upto = omega arith; none = λ k s. b k (omega arith) s }) y, l)

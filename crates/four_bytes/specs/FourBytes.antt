@@ -2,6 +2,7 @@
 -- Assumes nothing.
 use Rattle.std.specs.Prelude.{cond, List, [], ◌∷◌, ℕ, ◌+◌, ◌*◌, ◌/◌, ◌%◌, leb, length, get_or, take, drop}
 pub mod Back
+pub mod Chunks
 
 -- the number of four bytes
 abbrev pub number_of : List ℕ → ℕ

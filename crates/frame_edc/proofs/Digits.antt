@@ -5,6 +5,7 @@ use mathlib.Core.List.{List, [], ◌∷◌, ◌++◌, append_assoc, append-nil}
 use Prim.Native.Nat.{ℕ, ◌+◌, ◌-◌, ◌*◌, ◌/◌, ◌%◌, ◌^◌, ◌<◌}
 use native.Mathlib.Omega.{arith}
 use lib.ListN.{replicate}
+use Rattle.std.specs.Int.{w32, to_be_bytes}
 use Rattle.outcome.specs.Bytes.{Bytes}
 use Rattle.outcome.specs.Bytes.Kept.{bytes_nil, bytes_cons}
 use Rattle.bits.specs.Bits.{bits_of, number, unpack, pack}
@@ -20,6 +21,11 @@ last_byte x = let e : x ≡ x / 256 * 2 ^ 8 + x % 256 = omega arith in ap (bits_
 
 abbrev pub digits : ℕ → List ℕ
 digits n = n / 16777216 ∷ n / 65536 % 256 ∷ n / 256 % 256 ∷ n % 256 ∷ []
+
+-- as the library gives them
+pub digits-given : (n : ℕ) → n < 2 ^ 32 → to_be_bytes w32 n ≡ digits n
+digits-given n h =
+    ap₂ (λ (x y : ℕ). x ∷ n / 65536 % 256 ∷ n / 256 % 256 ∷ y ∷ []) (omega arith) (omega arith)
 
 digits-bits : (n : ℕ) → unpack (digits n) ≡ bits_of 32 n
 unfolding unpack

@@ -24,10 +24,8 @@ fn divide(t: &[u32; 256], bytes: &[u8]) -> u32
     ensures { result ≡ number 0 (remainder bytes.now) }
 {
     let mut r: u32 = 0;
-    let mut i = 0;
-    while i < bytes.len() {
-        r = take_byte(t, r, bytes[i]);
-        i += 1;
+    for b in bytes {
+        r = take_byte(t, r, *b);
     }
     r
 }
@@ -40,12 +38,7 @@ pub fn parity(bytes: &[u8]) -> [u8; 4]
     let one = take_byte(&t, divide(&t, bytes), 0);
     let two = take_byte(&t, one, 0);
     let three = take_byte(&t, two, 0);
-    let r = take_byte(&t, three, 0);
-    let a = (r / 16777216) as u8;
-    let b = (r / 65536 % 256) as u8;
-    let c = (r / 256 % 256) as u8;
-    let d = (r % 256) as u8;
-    [a, b, c, d]
+    take_byte(&t, three, 0).to_be_bytes()
 }
 
 // Whether the bytes, with the EDC field the last of them, are divisible.

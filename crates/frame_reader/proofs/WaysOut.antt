@@ -1,16 +1,12 @@
 -- The ways out of reading a frame, each with the answers that lead to it: the order 1, 2, 28, 29, 30.
 -- Assumes nothing.
 use mathlib.Core.Path.{◌≡◌, sym, ap, ◌∙◌}
-use mathlib.Core.Bool.{Bool, true, false, not, cond}
+use mathlib.Core.Bool.{Bool, true, false, not}
 use mathlib.Core.List.{List, []}
 use Prim.Native.Nat.{ℕ}
-use native.Mathlib.Omega.{arith}
 use borrow.Author.Tests.{not-true, not-false}
-use lib.Dec.{eqb}
-use lib.ListN.{length, take, drop, get_or, length-drop}
-use lib.Seq.{length-take-le}
+use lib.ListN.{length, take, get_or}
 use Rattle.outcome.specs.Say.{done, refused, cleared, outcome}
-use Rattle.outcome.specs.Buffer.Lengths.{same_lengths}
 use Rattle.codeword.specs.Nearest.{is_codeword}
 use Rattle.division.specs.Polynomial.{is_zero}
 use Rattle.frame_edc.specs.FrameEdc.{remainder}
@@ -35,13 +31,10 @@ module _ (frame old new : List ℕ) where
         pub on_reserved : not u ≡ true → new ≡ cleared 2048 old → outcome (refused 30 []) new ≡ reading frame old
         on_reserved n = law.on_reserved frame old new l m (sym ha ∙ not-false a na) (sym hb ∙ not-false b nb) (sym hu ∙ not-true u n)
 
-        pub on_done : not u ≡ false → (c : Bool) → (c ≡ eqb (length (main_data frame)) (length old)) × (new ≡ cond c (main_data frame) old)
-            → (fields : Fields) → fields ≡ fields_of frame → outcome (done (values fields)) new ≡ reading frame old
-        on_done n c e fields f =
-            let same : length (main_data frame) ≡ length old = length-take-le 2048 (drop 12 frame) (omega (arith, length-drop 12 frame)) ∙ sym m in
+        pub on_done : not u ≡ false → new ≡ main_data frame → (fields : Fields) → fields ≡ fields_of frame → outcome (done (values fields)) new ≡ reading frame old
+        on_done n e fields f =
             ap (λ (x : Fields). outcome (done (values x)) new) f
-            ∙ law.on_done frame old new l m (sym ha ∙ not-false a na) (sym hb ∙ not-false b nb) (sym hu ∙ not-false u n)
-            (same_lengths c (length (main_data frame)) (length old) new (main_data frame) old e same)
+            ∙ law.on_done frame old new l m (sym ha ∙ not-false a na) (sym hb ∙ not-false b nb) (sym hu ∙ not-false u n) e
 
 pub on_outgoing : (frame old : List ℕ) → length frame ≡ 2064 → (length old ≡ 2048 → ⊥) → outcome (refused 2 []) old ≡ reading frame old
 on_outgoing frame old l h = law.on_outgoing frame old old l h (λ _. old)

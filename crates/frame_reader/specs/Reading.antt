@@ -1,13 +1,14 @@
 -- What reading a Data Frame answers and hands out (document 02, §14).
 -- Assumes nothing.
-use Rattle.std.specs.Prelude.{List, [], ℕ, eqb, length, take, get_or}
-use Rattle.outcome.specs.Say.{Say, done, refused, demand, one_then_two, Outcome, answered}
+use Rattle.std.specs.Prelude.{List, ℕ, Result, eqb, length, take, get_or}
+use Rattle.outcome.specs.Say.{Say, done, demand, said_by, one_then_two, Outcome, answered}
 use Rattle.codeword.specs.Nearest.{is_codeword}
 use Rattle.division.specs.Polynomial.{is_zero}
 use Rattle.frame_edc.specs.FrameEdc.{remainder}
 use Rattle.data_frame.specs.DataFrame.{main_data, reserved_are_zero, fields_of, values}
-use Rattle.frame_reader.specs.declared.FrameRead.{FrameRead}
-use Rattle.frame_reader.specs.declared.FrameRead.TheVariants.{Done, WrongIncoming, WrongOutgoing, WrongIdentification, WrongEdc, ReservedBit}
+use Rattle.data_frame.specs.declared.Fields.{Fields}
+use Rattle.frame_reader.specs.declared.ReadFrameError.{ReadFrameError}
+use Rattle.frame_reader.specs.declared.ReadFrameError.TheVariants.{WrongIncoming, WrongOutgoing, WrongIdentification, WrongEdc, ReservedBit}
 pub mod WaysOut
 pub mod Exact
 pub mod Told
@@ -25,11 +26,14 @@ says frame old = one_then_two (eqb (length frame) 2064) (eqb (length old) 2048) 
 unfoldable pub reading : List ℕ → List ℕ → Outcome
 reading frame old = answered (says frame old) 2048 (main_data frame) old
 
--- document 02's number and values for each answer
-abbrev pub say_of : FrameRead → Say
-say_of (Done fields) = done (values fields)
-say_of WrongIncoming = refused 1 []
-say_of WrongOutgoing = refused 2 []
-say_of WrongIdentification = refused 28 []
-say_of WrongEdc = refused 29 []
-say_of ReservedBit = refused 30 []
+-- document 02's number of each refusal
+abbrev pub refusal_of : ReadFrameError → ℕ
+refusal_of WrongIncoming = 1
+refusal_of WrongOutgoing = 2
+refusal_of WrongIdentification = 28
+refusal_of WrongEdc = 29
+refusal_of ReservedBit = 30
+
+-- and the number and values of each answer
+abbrev pub say_of : Result Fields ReadFrameError → Say
+say_of = said_by values refusal_of

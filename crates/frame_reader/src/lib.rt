@@ -5,14 +5,14 @@ ghost use Rattle.std.specs.Prelude.{◌≡◌, length, take};
 ghost use Rattle.outcome.specs.Say.{outcome};
 ghost use Rattle.codeword.specs.Nearest.{is_codeword};
 ghost use Rattle.data_frame.specs.DataFrame.{reserved_are_zero, fields_of};
-ghost use Rattle.frame_reader.specs.Reading.{reading, say_of};
+ghost use Rattle.frame_reader.specs.Reading.{reading, refusal_of, say_of};
 
 use data_frame::{Copyright, Fields, SectorNumber, ZoneType};
+use outcome::Refusal;
 
-// What becomes of a frame: its fields, or why it is refused.
-#[derive(Clone, Copy)]
-pub enum FrameRead {
-    Done(Fields),
+// Why a frame is refused.
+#[derive(Clone, Copy, Debug, PartialEq, Eq)]
+pub enum ReadFrameError {
     WrongIncoming,
     WrongOutgoing,
     WrongIdentification,
@@ -20,32 +20,33 @@ pub enum FrameRead {
     ReservedBit,
 }
 
+impl Refusal for ReadFrameError {
+    ghost refusal_of = { refusal_of };
+
+    fn number(self) -> u8 {
+        match self {
+            ReadFrameError::WrongIncoming => 1,
+            ReadFrameError::WrongOutgoing => 2,
+            ReadFrameError::WrongIdentification => 28,
+            ReadFrameError::WrongEdc => 29,
+            ReadFrameError::ReservedBit => 30,
+        }
+    }
+}
+
 // Whether ID and IED are a codeword (16.2).
 fn is_identified(frame: &[u8]) -> bool
     requires { length frame.now ≡ 2064 }
     ensures { result ≡ is_codeword 2 (take 6 frame.now) }
 {
-    let s = word_sums::two_sums(&frame[..6]);
-    if s.1 != 0 {
-        return false;
-    }
-    s.0 == 0
+    word_sums::sums(&frame[..6]) == [0, 0]
 }
 
 // Whether b31, b30, b28 and b25 are ZERO (16.1).
 fn reserved_are_zero(first: u8) -> bool
     ensures { result ≡ reserved_are_zero first }
 {
-    if first / 128 % 2 != 0 {
-        return false;
-    }
-    if first / 64 % 2 != 0 {
-        return false;
-    }
-    if first / 16 % 2 != 0 {
-        return false;
-    }
-    first / 2 % 2 == 0
+    first & 0b1101_0010 == 0
 }
 
 // The fields that stand in a frame.
@@ -64,28 +65,28 @@ fn fields_of(frame: &[u8]) -> Fields
 }
 
 // Reads a frame: its fields come back, and its Main Data goes into `main`.
-pub fn read_frame(frame: &[u8], main: &mut [u8]) -> FrameRead
+pub fn read_frame(frame: &[u8], main: &mut [u8]) -> Result<Fields, ReadFrameError>
     ensures { outcome (say_of result) main.new ≡ reading frame.now main.old }
 {
     if frame.len() != 2064 {
         outcome::wipe(main, 2048);
-        return FrameRead::WrongIncoming;
+        return Err(ReadFrameError::WrongIncoming);
     }
     if main.len() != 2048 {
-        return FrameRead::WrongOutgoing;
+        return Err(ReadFrameError::WrongOutgoing);
     }
     if !is_identified(frame) {
         outcome::wipe(main, 2048);
-        return FrameRead::WrongIdentification;
+        return Err(ReadFrameError::WrongIdentification);
     }
     if !frame_edc::holds(frame) {
         outcome::wipe(main, 2048);
-        return FrameRead::WrongEdc;
+        return Err(ReadFrameError::WrongEdc);
     }
     if !reserved_are_zero(frame[0]) {
         outcome::wipe(main, 2048);
-        return FrameRead::ReservedBit;
+        return Err(ReadFrameError::ReservedBit);
     }
-    outcome::copy(&frame[12..2060], main);
-    FrameRead::Done(fields_of(frame))
+    main.copy_from_slice(&frame[12..2060]);
+    Ok(fields_of(frame))
 }

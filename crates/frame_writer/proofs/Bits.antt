@@ -1,10 +1,10 @@
--- Bits are at most 1.
+-- ONE as the library has it is ONE of the standard.
 -- Assumes nothing.
+use mathlib.Core.Path.{◌≡◌, refl}
 use mathlib.Core.Bool.{Bool, true, false}
-use Prim.Native.Nat.{◌≤◌}
-use native.Mathlib.Omega.{arith}
+use Rattle.std.specs.Int.{from_bool}
 use Rattle.data_frame.specs.DataFrame.{bit}
 
-pub bit_most : (b : Bool) → bit b ≤ 1
-bit_most true = omega arith
-bit_most false = omega arith
+pub bit_from : (b : Bool) → from_bool b ≡ bit b
+bit_from true = refl
+bit_from false = refl

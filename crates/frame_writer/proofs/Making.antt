@@ -5,12 +5,12 @@ use mathlib.Core.Bool.{Bool}
 use mathlib.Core.List.{List, [], ◌++◌, append_assoc, append-nil}
 use Prim.Native.Nat.{ℕ, ◌+◌, ◌≤◌}
 use native.Mathlib.Omega.{arith}
-use borrow.Rule.Slice.PartMut.{mid_of, put_mid}
+use borrow.Rule.Slice.PartMut.{put_mid}
 use lib.ListN.{length, take, drop, length-append, length-drop, drop_of_length-le}
-use lib.Seq.{take_at, drop_at}
+use lib.Seq.{take_at, drop_at, drop-drop}
 use Rattle.outcome.specs.Bytes.{Bytes}
 use Rattle.laying.specs.Both.{both, Lays}
-use Rattle.laying.specs.Both.Copied.{CopiedInto, put_copy, laid_both}
+use Rattle.laying.specs.Both.Copied.{laid_both}
 use Rattle.codeword.specs.Code.{Codeword}
 use Rattle.frame_edc.specs.FrameEdc.{Divisible, edc}
 use Rattle.frame_edc.specs.FrameEdc.Right.{edc-right, length-edc}
@@ -39,15 +39,12 @@ module _ (front main z : List ℕ) (lf : length front ≡ 12) (lm : length main 
       ap (take 2060) (sym (append_assoc front main (drop (0 + length front + length main) z)))
       ∙ take_at (front ++ main) (drop (0 + length front + length main) z) 2060 (omega (arith, length-append front main))
 
-  pub check_copied : (f check x : List ℕ) (r : Bool) → f ≡ two → check ≡ edc (take 2060 (drop 0 f)) → CopiedInto r check (mid_of 2060 4 f) x
-      → put_mid 2060 4 f x ≡ (front ++ main) ++ edc (front ++ main)
-  check_copied f check x r e k c =
+  pub check_copied : (f x : List ℕ) → f ≡ two → x ≡ edc (take 2060 (drop 0 f)) → put_mid 2060 4 f x ≡ (front ++ main) ++ edc (front ++ main)
+  check_copied f x e k =
       let s : take 2060 f ≡ front ++ main = ap (take 2060) e ∙ front-two in
       let few : length f ≤ 2064 = omega (arith, ap length e, length_two) in
-      let end : drop 2064 f ≡ [] = drop_of_length-le f few in
-      let same : check ≡ edc (front ++ main) = k ∙ ap edc s in
-      put_copy 2060 2064 check f x r (omega arith) (omega (arith, ap length same, length-edc (front ++ main))) (omega (arith, ap length e, length_two)) c
-      ∙ ap₂ (λ (a b : List ℕ). a ++ b) s (ap₂ (λ (a b : List ℕ). a ++ b) same end ∙ append-nil (edc (front ++ main)))
+      let end : drop 4 (drop 2060 f) ≡ [] = drop-drop 4 2060 f ∙ drop_of_length-le f few in
+      ap₂ (λ (a b : List ℕ). a ++ b) s (ap₂ (λ (a b : List ℕ). a ++ b) (k ∙ ap edc s) end ∙ append-nil (edc (front ++ main)))
 
 pub length_front : {fields : Fields} {front : List ℕ} → Front fields front → length front ≡ 12
 length_front {fields} {front} p =

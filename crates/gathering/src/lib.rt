@@ -26,12 +26,10 @@ fn gather_row(s: &[u8], m: usize, row: &mut [u8])
     ensures { row.new ≡ q_row s.now m }
 {
     let mut word = 44 * m % WORDS;
-    let mut d: usize = 0;
-    while d < 26 {
+    for d in 0..26 {
         row[2 * d] = s[2 * word + 12];
         row[2 * d + 1] = s[2 * word + 13];
         word = next_word(word);
-        d += 1;
     }
 }
 
@@ -40,11 +38,9 @@ fn gather_all(s: &[u8], rows: &mut [u8])
     requires { (length s.now ≡ 2352) × (length rows.old ≡ 2236) }
     ensures { rows.new ≡ q_rows s.now }
 {
-    let mut m: usize = 0;
-    while m < 43 {
+    for m in 0..43 {
         let at = 52 * m;
         gather_row(s, m, &mut rows[at..at + 52]);
-        m += 1;
     }
 }
 

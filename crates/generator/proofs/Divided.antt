@@ -1,6 +1,6 @@
 -- The invariant of a division that has come as far as the byte i, and how four bytes more and one byte more keep it.
 -- Assumes nothing.
-use mathlib.Core.Path.{◌≡◌, refl, sym, ap, ap₂, ◌∙◌}
+use mathlib.Core.Path.{◌≡◌, refl, sym, ap, ap₂, ◌∙◌, subst}
 use mathlib.Core.List.{List, [], ◌∷◌, ◌++◌}
 use Prim.Native.Nat.{ℕ, ◌+◌, ◌*◌, ◌/◌, ◌%◌, ◌<◌, ◌≤◌}
 use native.Mathlib.Numerals.{add-one}
@@ -77,6 +77,10 @@ module _ {w : List ℕ} {i r : ℕ} (t : List ℕ) (u : t ≡ rows upward) (h : 
             ∙ ap (sum j) (sym (take-suc w i 0 l))
             ∙ ap (λ (n : ℕ). sum j (take n w)) (sym (add-one i));
       }
+
+-- the same place by another name
+pub divided_so : {w : List ℕ} {i k r : ℕ} → Divided w i r → i ≡ k → Divided w k r
+divided_so {w} {i} {k} {r} p e = subst (λ (n : ℕ). Divided w n r) e p
 
 pub divided_all : {w : List ℕ} {i r : ℕ} → Divided w i r → length w ≤ i → Left w r
 divided_all {w} {i} p l j k = p.is j k ∙ ap (sum j) (take_all i w l)

@@ -8,24 +8,23 @@ ghost use Rattle.codeword.specs.Parity.{Parity};
 ghost use Rattle.generator_rows.specs.Register.{Left};
 ghost use Rattle.generator_rows.specs.Rows.{rows, upward, downward};
 
-use four_bytes::{bytes_of, number_at};
+use four_bytes::bytes_of;
 use generator_steps::{look_up, take_byte};
 use generator_tables::{downward, upward};
 
-// Four bytes a turn, and the last ones one by one.
+// Four bytes a turn, and the last ones one by one. The EDC's division goes the same way; one function for both would need a trait with the register's invariant and its laws,
+// longer than the two together.
 fn divide(t: &[u32; 128], w: &[u8]) -> u32
     requires { t.now ≡ rows upward }
     ensures { Left w.now result }
 {
+    let (words, last) = w.as_chunks::<4>();
     let mut r: u32 = 0;
-    let mut i: usize = 0;
-    while 4 <= w.len() - i {
-        r = number_at(w, i) ^ look_up(t, r);
-        i += 4;
+    for word in words {
+        r = u32::from_le_bytes(*word) ^ look_up(t, r);
     }
-    while i < w.len() {
-        r = take_byte(t, r, w[i]);
-        i += 1;
+    for byte in last {
+        r = take_byte(t, r, *byte);
     }
     r
 }

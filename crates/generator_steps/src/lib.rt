@@ -12,7 +12,7 @@ fn entry(t: &[u32; 128], block: usize, b: u32) -> u32
     t[block + (b % 16) as usize] ^ t[block + 16 + (b / 16) as usize]
 }
 
-// The entries of the register's four bytes, added.
+// The entries of the register's four bytes, added. `edc_steps` does the same by one look-up a byte and not two: a trait for both would say more than the two functions.
 pub fn look_up(t: &[u32; 128], r: u32) -> u32
     ensures { result ≡ entries t.now r }
 {

@@ -10,7 +10,7 @@ ghost use Rattle.traces.specs.Strokes.{spent};
 use traces::{Choice, Tally, Trace};
 
 // Merging bits before a Sync Header, and the tally after them.
-#[derive(Clone, Copy)]
+#[derive(Clone, Copy, Debug, PartialEq, Eq)]
 pub struct Tail {
     pub bits: u32,
     pub after: Tally,
@@ -24,10 +24,9 @@ pub fn after_header(t: Tally) -> Trace
     ensures { result ≡ after_header t }
 {
     if traces::is_light(t) {
-        let tally = traces::spend(t, 11, 13, 1);
         return Trace {
             run: HEADED,
-            tally: tally,
+            tally: traces::spend(t, 11, 13, 1),
         };
     }
     Trace {
@@ -41,22 +40,21 @@ fn best(t: Trace) -> Choice
     requires { Fit t }
     ensures { HeaderStands t result (before_next_header t) }
 {
-    let tally = t.tally;
-    let first = automaton_states::header_after_one(t.run);
-    let second = automaton_states::header_after_zeros(t.run);
-    let x = traces::spend(tally, 13, 14, 0);
-    let y = traces::spend(tally, 14, 13, 1);
-    let p = Trace {
-        run: first,
-        tally: x,
+    let one = Choice {
+        bits: 0b100,
+        after: Trace {
+            run: automaton_states::header_after_one(t.run),
+            tally: traces::spend(t.tally, 13, 14, 0),
+        },
     };
-    let q = Trace {
-        run: second,
-        tally: y,
+    let zeros = Choice {
+        bits: 0b000,
+        after: Trace {
+            run: automaton_states::header_after_zeros(t.run),
+            tally: traces::spend(t.tally, 14, 13, 1),
+        },
     };
-    let a = Choice { bits: 4, after: p };
-    let b = Choice { bits: 0, after: q };
-    traces::better_of(a, b)
+    traces::better_of(one, zeros)
 }
 
 // The tally after the Merging bits 000 or 100.
@@ -64,26 +62,25 @@ fn merged(t: Tally, bits: u32) -> Tally
     ensures { result ≡ cond (eqb bits 0) (spent t 3 0 0) (spent t 0 3 1) }
 {
     if bits == 0 {
-        return traces::spend(t, 3, 0, 0);
+        traces::spend(t, 3, 0, 0)
+    } else {
+        traces::spend(t, 0, 3, 1)
     }
-    traces::spend(t, 0, 3, 1)
 }
 
 // What is chosen before the next Sync Header.
 pub fn choose_header(t: Trace) -> Tail
     ensures { result ≡ tail_choice t }
 {
-    let tally = t.tally;
     if traces::is_fit(t) {
         let c = best(t);
-        let after = merged(tally, c.bits);
         return Tail {
             bits: c.bits,
-            after: after,
+            after: merged(t.tally, c.bits),
         };
     }
     Tail {
         bits: 0,
-        after: tally,
+        after: t.tally,
     }
 }

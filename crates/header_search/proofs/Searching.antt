@@ -4,11 +4,12 @@ use mathlib.Core.Path.{◌≡◌, sym, ap, ◌∙◌}
 use mathlib.Core.Bool.{Bool, true, false}
 use mathlib.Core.Logic.{◌⊎◌, inl, inr}
 use mathlib.Core.List.{List}
-use Prim.Native.Nat.{ℕ, ◌+◌, ◌-◌, ◌/◌, ◌<◌, ◌≤◌}
+use Prim.Native.Nat.{ℕ, ◌+◌, ◌-◌, ◌/◌, ◌<◌, ◌≤◌, max}
 use native.Mathlib.Omega.{arith}
+use lib.Dec.{eqb}
 use borrow.Author.Tests.{eq-eqb, ne_eqb, lt-ltb}
 use lib.ListN.{length}
-use Rattle.outcome.specs.First.Found.{lt-or-le, first_below_lem, found_first}
+use Rattle.outcome.specs.First.Found.{lt-or-le, found_first}
 use Rattle.legal_runs.specs.EdgeBits.{runs, edge_bits}
 use Rattle.legal_runs.specs.EdgeBits.There.{runs_long}
 use Rattle.header_search.specs.HeaderEdge.{begins, stands, header_edge}
@@ -19,24 +20,16 @@ module _ (ds : List ℕ) (k b : ℕ) (e : b ≡ edge_bits ds k) where
   unfolding begins
   on_first n = simp (ne_eqb (edge_bits ds k) 11 (λ f. n (e ∙ f)))
 
-  module _ (g : b ≡ 11) (c : ℕ) (f : c ≡ edge_bits ds (k + 1)) where
-    pub on_second : (c ≡ 11 → ⊥) → false ≡ begins ds k
-    unfolding begins
-    on_second n = simp (eq-eqb (edge_bits ds k) 11 (sym e ∙ g), ne_eqb (edge_bits ds (k + 1)) 11 (λ h. n (f ∙ h)))
-
-    pub on_both : c ≡ 11 → true ≡ begins ds k
-    unfolding begins
-    on_both h = simp (eq-eqb (edge_bits ds k) 11 (sym e ∙ g), eq-eqb (edge_bits ds (k + 1)) 11 (sym f ∙ h))
+  pub on_second : b ≡ 11 → (c : ℕ) → c ≡ edge_bits ds (k + 1) → eqb c 11 ≡ begins ds k
+  unfolding begins
+  on_second g c f = ap (λ (n : ℕ). eqb n 11) f ∙ simp (eq-eqb (edge_bits ds k) 11 (sym e ∙ g))
 
 -- ---- whether one stands at an edge
 
-pub stands-behind : (w : List ℕ) (k : ℕ) → length w / 2 ≤ k → false ≡ stands (runs w) k
-stands-behind w k h = sym (too_few (runs w) k (omega (arith, runs_long w)))
-
-pub stands_short : (w : List ℕ) (k : ℕ) → length w / 2 ≤ k + 3 → false ≡ stands (runs w) k
+pub stands_short : (w : List ℕ) (k : ℕ) → length w / 2 - 3 ≤ k → false ≡ stands (runs w) k
 stands_short w k h = sym (too_few (runs w) k (omega (arith, runs_long w)))
 
-pub stands-begins : (w : List ℕ) (k : ℕ) (t : Bool) → k + 3 < length w / 2 → t ≡ begins (runs w) k → t ≡ stands (runs w) k
+pub stands-begins : (w : List ℕ) (k : ℕ) (t : Bool) → k < length w / 2 - 3 → t ≡ begins (runs w) k → t ≡ stands (runs w) k
 unfolding stands
 stands-begins w k t h e = let l : k + 2 < length (runs w) = omega (arith, runs_long w) in e ∙ simp (lt-ltb (k + 2) (length (runs w)) l)
 
@@ -45,19 +38,11 @@ stands-begins w k t h e = let l : k + 2 < length (runs w) = omega (arith, runs_l
 -- at the edges from `from` to before k none begins
 pub record Searched (w : List ℕ) (from k : ℕ) : Type 0 where
   pub after : from ≤ k
-  pub within : k ≤ length w / 2
   pub upto : k - from ≤ length (runs w) - 2 - from
   pub none : (i : ℕ) → i < k - from → begins (runs w) (from + i) ≡ true → ⊥
 
-pub searched_none : (w : List ℕ) (from : ℕ) → from < length w / 2 → Searched w from from
-searched_none w from h = record { after = omega arith; within = omega arith; upto = omega arith; none = λ i m. absurd (omega arith) }
-
--- behind the last edge there is nothing to search
-pub on_behind : (w : List ℕ) (from : ℕ) → length w / 2 ≤ from → from ≡ header_edge (runs w) from
-unfolding header_edge
-on_behind w from h =
-    let f = first_below_lem (λ i. begins (runs w) (from + i)) (length (runs w) - 2 - from) in
-    omega (arith, f.within, runs_long w)
+pub searched_none : (w : List ℕ) (from : ℕ) → Searched w from from
+searched_none w from = record { after = omega arith; upto = omega arith; none = λ i m. absurd (omega arith) }
 
 module _ {w : List ℕ} {from k : ℕ} (s : Searched w from k) where
   back : from + (k - from) ≡ k
@@ -72,7 +57,7 @@ module _ {w : List ℕ} {from k : ℕ} (s : Searched w from k) where
       (found_first (λ i. begins (runs w) (from + i)) (length (runs w) - 2 - from) (k - from)
       (record { within = s.upto; before = s.none; holds = λ m. ap (begins (runs w)) back ∙ h m }))
 
-  module _ (h : k + 3 < length w / 2) (t : Bool) (e : t ≡ begins (runs w) k) where
+  module _ (h : k < length w / 2 - 3) (t : Bool) (e : t ≡ begins (runs w) k) where
     pub on_begins : t ≡ true → k ≡ header_edge (runs w) from
     on_begins f = ends (λ _. sym e ∙ f)
 
@@ -80,7 +65,6 @@ module _ {w : List ℕ} {from k : ℕ} (s : Searched w from k) where
     searched_more f =
         record {
           after = omega (arith, s.after);
-          within = omega arith;
           upto = omega (arith, runs_long w);
           none = λ i m. go i (lt-or-le i (k - from)) m;
         }
@@ -92,5 +76,8 @@ module _ {w : List ℕ} {from k : ℕ} (s : Searched w from k) where
             let q : begins (runs w) k ≡ true = sym (ap (begins (runs w)) g) ∙ p in
             let z : ◌≡◌ {A = ℕ} 0 1 = cc in omega arith
 
-  pub on_end : length w / 2 ≤ k + 3 → k ≡ header_edge (runs w) from
-  on_end h = ends (λ m. absurd (omega (arith, runs_long w)))
+  -- the search ends at the last edge with three runs behind it, or where it began
+  pub on_end : (n last : ℕ) → n ≡ length w / 2 - 3 → n ≤ k → last ≡ max from n → last ≡ header_edge (runs w) from
+  on_end n last e h m =
+      let at : last ≡ k = omega (arith, s.after, s.upto, runs_long w) in
+      at ∙ ends (λ m. absurd (omega (arith, runs_long w)))

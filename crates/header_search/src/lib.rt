@@ -10,42 +10,25 @@ fn begins_at(capture: &[u8], k: usize) -> bool
     requires { k < length capture.now }
     ensures { result ≡ begins (runs capture.now) k }
 {
-    if legal_runs::bits_at(capture, k) != 11 {
-        return false;
-    }
-    if legal_runs::bits_at(capture, k + 1) != 11 {
-        return false;
-    }
-    true
+    legal_runs::bits_at(capture, k) == 11 && legal_runs::bits_at(capture, k + 1) == 11
 }
 
 // Whether a Sync Header begins at edge k: a third run behind the two shows its last ZERO.
 pub fn stands_at(capture: &[u8], k: usize) -> bool
     ensures { result ≡ stands (runs capture.now) k }
 {
-    if capture.len() / 2 <= k {
-        return false;
-    }
-    if capture.len() / 2 <= k + 3 {
-        return false;
-    }
-    begins_at(capture, k)
+    k < (capture.len() / 2).saturating_sub(3) && begins_at(capture, k)
 }
 
 // The first edge from `from` on at which a Sync Header begins, or where the search ends.
 pub fn header_edge(capture: &[u8], from: usize) -> usize
     ensures { result ≡ header_edge (runs capture.now) from }
 {
-    if capture.len() / 2 <= from {
-        return from;
-    }
-    let mut k = from;
-    while k + 3 < capture.len() / 2 {
-        let begins = begins_at(capture, k);
-        if begins {
+    let end = (capture.len() / 2).saturating_sub(3);
+    for k in from..end {
+        if begins_at(capture, k) {
             return k;
         }
-        k += 1;
     }
-    k
+    from.max(end)
 }

@@ -1,16 +1,14 @@
--- How far a buffer is filled from standard input, and what the last read said.
+-- How far a buffer is filled from standard input, and what stopped the reading.
 -- Assumes nothing.
-use Rattle.std.specs.Prelude.{◌≡◌, ℕ, ◌<◌}
+use Rattle.std.specs.Prelude.{◌≡◌, ℕ, ◌<◌, Option, Some, None}
 use Rattle.input_reading.specs.declared.Filled.{Filled}
-use Rattle.input_reading.specs.declared.Read.{Read}
-use Rattle.input_reading.specs.declared.Read.TheVariants.{Failed, End, More}
+use Rattle.input_reading.specs.declared.Stop.{Stop}
 
 -- reading stopped exactly where the buffer was full, or the last read brought nothing
-abbrev pub StoppedAt : ℕ → ℕ → Read → Type 0
-StoppedAt room have (More n) = have ≡ room
-StoppedAt room have End = have < room
-StoppedAt room have Failed = have < room
+abbrev pub StoppedAt : ℕ → ℕ → Option Stop → Type 0
+StoppedAt room have None = have ≡ room
+StoppedAt room have (Some stop) = have < room
 
 -- what filling a buffer with so much room answers
 abbrev pub Fills : ℕ → Filled → Type 0
-Fills room f = StoppedAt room f.have f.last
+Fills room f = StoppedAt room f.have f.stop

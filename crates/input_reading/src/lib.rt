@@ -7,36 +7,33 @@ ghost use Rattle.input_reading.specs.Inner.{meaning_of, Brought};
 
 use std::io;
 
-// What one read said: it failed, the input is at its end, or so many bytes more came.
-#[derive(Clone, Copy)]
-pub enum Read {
+// Why a read brought nothing: it failed, or the input is at its end.
+#[derive(Clone, Copy, Debug, PartialEq, Eq)]
+pub enum Stop {
     Failed,
     End,
-    More(usize),
 }
 
-// How many bytes of a buffer are read, and what the last read said.
-#[derive(Clone, Copy)]
+// How many bytes of a buffer are read, and what stopped the reading before it was full.
+#[derive(Clone, Copy, Debug, PartialEq, Eq)]
 pub struct Filled {
     pub have: usize,
-    pub last: Read,
+    pub stop: Option<Stop>,
 }
 
-// What the answer of a read means.
-fn meaning(got: io::Result<usize>) -> Read
+// What the answer of a read means: so many bytes more came, or why none did.
+fn meaning(got: io::Result<usize>) -> Result<usize, Stop>
     ensures { result ≡ meaning_of got }
 {
-    let Ok(more) = got else {
-        return Read::Failed;
-    };
-    if more == 0 {
-        return Read::End;
+    match got {
+        Err(_) => Err(Stop::Failed),
+        Ok(0) => Err(Stop::End),
+        Ok(more) => Ok(more),
     }
-    Read::More(more)
 }
 
 // One read.
-fn read_more<R: io::Read>(input: &mut R, part: &mut [u8]) -> Read
+fn read_more<R: io::Read>(input: &mut R, part: &mut [u8]) -> Result<usize, Stop>
     ensures { Brought (length part.old) result }
 {
     let got = input.read(part);
@@ -47,14 +44,17 @@ fn read_more<R: io::Read>(input: &mut R, part: &mut [u8]) -> Read
 pub fn fill<R: io::Read>(input: &mut R, buffer: &mut [u8]) -> Filled
     ensures { Fills (length buffer.old) result }
 {
-    let mut have: usize = 0;
-    let mut last = Read::More(0);
+    let mut have = 0;
     while have < buffer.len() {
-        last = read_more(input, &mut buffer[have..]);
-        let Read::More(n) = last else {
-            return Filled { have, last };
-        };
-        have += n;
+        match read_more(input, &mut buffer[have..]) {
+            Ok(more) => have += more,
+            Err(stop) => {
+                return Filled {
+                    have,
+                    stop: Some(stop),
+                };
+            }
+        }
     }
-    Filled { have, last }
+    Filled { have, stop: None }
 }

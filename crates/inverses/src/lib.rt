@@ -10,10 +10,8 @@ pub fn inverse(a: u8) -> u8
     ensures { InverseOf a result }
 {
     let mut r: u8 = 1;
-    let mut i: u8 = 0;
-    while i < 7 {
+    for _ in 0..7u8 {
         r = product(product(r, r), a);
-        i += 1;
     }
     product(r, r)
 }

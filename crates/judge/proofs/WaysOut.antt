@@ -8,6 +8,7 @@ use borrow.Author.Tests.{eq-eqb, ne_eqb, lt-leb, le-leb, lt-ltb, le-ltb, not-tru
 use native.Mathlib.Omega.{arith}
 use lib.ListN.{length, take}
 use lib.Seq.{length-take-le}
+use Rattle.std.specs.Prelude.{Option, Some, None}
 use Rattle.outcome.specs.Say.{Say, refused}
 use Rattle.outcome.specs.First.{first_below}
 use Rattle.edc.specs.Bits.{bits}
@@ -18,7 +19,8 @@ use Rattle.address.specs.declared.HeaderTime.{HeaderTime}
 use Rattle.sector.specs.Layout.{sync, bytes_from, time_of, mode_of, zeros}
 use Rattle.lists.specs.Same.{same}
 use Rattle.rspc.specs.declared.Parity.TheVariants.{P, Q}
-use Rattle.failing.specs.Failing.{failing}
+use Rattle.failing.specs.Failing.{failing, first_failing}
+use Rattle.failing.specs.Failing.First.{some_fails, none_fails}
 use Rattle.judge.specs.Judging.{passing, judging_mode01, judging_mode00, by_mode, judging}
 
 -- ---- Mode 01: 11, 12, 13, 14
@@ -37,25 +39,35 @@ module _ (s : List ℕ) (e : Bool) (he : e ≡ is_zero (remainder (bits (take 20
     unfolding judging_mode01
     on_intermediate n = let d = sym he ∙ not-false e ne in let m = sym hi ∙ not-true i n in simp (d, m)
 
-    module _ (ni : not i ≡ false) (p : ℕ) (hp : p ≡ first_below (failing P s) p_words) where
-      pub on_p : p < p_words → refused 13 (p ∷ []) ≡ judging_mode01 s
+    module _ (ni : not i ≡ false) (po : Option ℕ) (hp : po ≡ first_failing P s) where
+      pub on_p : (p : ℕ) → po ≡ Some p → refused 13 (p ∷ []) ≡ judging_mode01 s
       unfolding judging_mode01
-      on_p l = let d = sym he ∙ not-false e ne in let m = sym hi ∙ not-false i ni in simp (d, m, sym hp, lt-ltb p p_words l)
+      on_p p k =
+          let d = sym he ∙ not-false e ne in
+          let m = sym hi ∙ not-false i ni in
+          let f = some_fails P s (sym hp ∙ k) in
+          simp (d, m, sym f.0, lt-ltb p p_words f.1)
 
-      module _ (lp : p_words ≤ p) (q : ℕ) (hq : q ≡ first_below (failing Q s) q_words) where
-        pub on_q : q < q_words → refused 14 (q ∷ []) ≡ judging_mode01 s
+      module _ (np : po ≡ None) (qo : Option ℕ) (hq : qo ≡ first_failing Q s) where
+        none-p : p_words ≤ first_below (failing P s) p_words
+        none-p = none_fails P s (sym hp ∙ np)
+
+        pub on_q : (q : ℕ) → qo ≡ Some q → refused 14 (q ∷ []) ≡ judging_mode01 s
         unfolding judging_mode01
-        on_q l =
+        on_q q k =
             let d = sym he ∙ not-false e ne in
             let m = sym hi ∙ not-false i ni in
-            simp (d, m, sym hp, le-ltb p p_words lp, sym hq, lt-ltb q q_words l)
+            let g = some_fails Q s (sym hq ∙ k) in
+            simp (d, m, le-ltb (first_below (failing P s) p_words) p_words none-p, sym g.0, lt-ltb q q_words g.1)
 
-        pub on_pass : q_words ≤ q → (t : HeaderTime) → t ≡ time_of s → passing 1 t ≡ judging_mode01 s
+        pub on_pass : qo ≡ None → (t : HeaderTime) → t ≡ time_of s → passing 1 t ≡ judging_mode01 s
         unfolding judging_mode01
-        on_pass l t ht =
+        on_pass nq t ht =
             let d = sym he ∙ not-false e ne in
             let m = sym hi ∙ not-false i ni in
-            ap (passing 1) ht ∙ simp (d, m, sym hp, le-ltb p p_words lp, sym hq, le-ltb q q_words l)
+            let none-q : q_words ≤ first_below (failing Q s) q_words = none_fails Q s (sym hq ∙ nq) in
+            ap (passing 1) ht
+            ∙ simp (d, m, le-ltb (first_below (failing P s) p_words) p_words none-p, le-ltb (first_below (failing Q s) q_words) q_words none-q)
 
 pub ruleset ways01 = (on_edc, on_intermediate, on_p, on_q, on_pass)
 
@@ -65,9 +77,9 @@ pub in_mode00 : (m : ℕ) (s : List ℕ) (a : Say) → m ≡ 0 → a ≡ judging
 unfolding by_mode
 in_mode00 m s a e h = h ∙ simp (eq-eqb m 0 e)
 
-pub in_mode01 : (m : ℕ) (s : List ℕ) (a : Say) → (m ≡ 0 → ⊥) → m ≡ 1 → a ≡ judging_mode01 s → a ≡ by_mode m s
+pub in_mode01 : (m : ℕ) (s : List ℕ) (a : Say) → m ≡ 1 → a ≡ judging_mode01 s → a ≡ by_mode m s
 unfolding by_mode
-in_mode01 m s a n e h = h ∙ simp (ne_eqb m 0 n, eq-eqb m 1 e)
+in_mode01 m s a e h = h ∙ simp (ne_eqb m 0 (λ z. omega arith), eq-eqb m 1 e)
 
 pub in_mode02 : (m : ℕ) (s : List ℕ) (t : HeaderTime) → (m ≡ 0 → ⊥) → (m ≡ 1 → ⊥) → t ≡ time_of s → passing m t ≡ by_mode m s
 unfolding by_mode

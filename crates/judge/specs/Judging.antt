@@ -1,6 +1,6 @@
 -- How a Sector is judged (document 01, Order): the first fault found is the answer.
 -- Assumes nothing.
-use Rattle.std.specs.Prelude.{cond, List, [], ◌∷◌, ℕ, eqb, leb, ltb, length, take, drop}
+use Rattle.std.specs.Prelude.{cond, List, [], ◌∷◌, ℕ, Result, Ok, Err, eqb, leb, ltb, length, take, drop}
 use Rattle.outcome.specs.Say.{Say, done, refused, demand}
 use Rattle.outcome.specs.First.{first_below}
 use Rattle.edc.specs.Bits.{bits}
@@ -13,8 +13,9 @@ use Rattle.failing.specs.Failing.{failing}
 use Rattle.rspc.specs.declared.Parity.{Parity}
 use Rattle.rspc.specs.declared.Parity.TheVariants.{P, Q}
 use Rattle.address.specs.declared.HeaderTime.{HeaderTime}
-use Rattle.judge.specs.declared.Judged.{Judged}
-use Rattle.judge.specs.declared.Judged.TheVariants.{Passed, WrongIncoming, WrongSync, UnknownMode, WrongAddress, WrongEdc, WrongIntermediate, WrongP, WrongQ, WrongFiller}
+use Rattle.judge.specs.declared.Passed.{Passed}
+use Rattle.judge.specs.declared.JudgeError.{JudgeError}
+use Rattle.judge.specs.declared.JudgeError.TheVariants.{WrongIncoming, WrongSync, UnknownMode, WrongAddress, WrongEdc, WrongIntermediate, WrongP, WrongQ, WrongFiller}
 pub mod Demanded
 pub mod Exact
 pub mod Told
@@ -55,15 +56,30 @@ judging s =
     (demand (in_range (time_of s)) 4
     (by_mode (mode_of s) s))))
 
+abbrev pub refusal_of : JudgeError → ℕ
+refusal_of WrongIncoming = 1
+refusal_of WrongSync = 10
+refusal_of UnknownMode = 3
+refusal_of WrongAddress = 4
+refusal_of WrongEdc = 11
+refusal_of WrongIntermediate = 12
+refusal_of (WrongP n) = 13
+refusal_of (WrongQ n) = 14
+refusal_of WrongFiller = 15
+
+-- the values that come with a refusal: the number of the codeword that fails
+abbrev pub values_with : JudgeError → List ℕ
+values_with WrongIncoming = []
+values_with WrongSync = []
+values_with UnknownMode = []
+values_with WrongAddress = []
+values_with WrongEdc = []
+values_with WrongIntermediate = []
+values_with (WrongP n) = n ∷ []
+values_with (WrongQ n) = n ∷ []
+values_with WrongFiller = []
+
 -- document 01's number and values for each answer
-abbrev pub say_of : Judged → Say
-say_of (Passed mode time) = passing mode time
-say_of WrongIncoming = refused 1 []
-say_of WrongSync = refused 10 []
-say_of UnknownMode = refused 3 []
-say_of WrongAddress = refused 4 []
-say_of WrongEdc = refused 11 []
-say_of WrongIntermediate = refused 12 []
-say_of (WrongP n) = refused 13 (n ∷ [])
-say_of (WrongQ n) = refused 14 (n ∷ [])
-say_of WrongFiller = refused 15 []
+abbrev pub say_of : Result Passed JudgeError → Say
+say_of (Ok passed) = passing passed.mode passed.time
+say_of (Err e) = refused (refusal_of e) (values_with e)

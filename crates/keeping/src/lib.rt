@@ -4,17 +4,28 @@
 ghost use Rattle.std.specs.Prelude.{◌≡◌};
 ghost use Rattle.outcome.specs.Say.{outcome};
 ghost use Rattle.captures.specs.Kept.{keeping};
-ghost use Rattle.keeping.specs.Answers.{say_of};
+ghost use Rattle.keeping.specs.Answers.{refusal_of, say_of};
 ghost use Rattle.keeping.specs.Inner.Wrote.{Ready, Wrote};
 
 use number_groups::put_number;
+use outcome::Refusal;
 
-// What keeping a capture answers: the used length of the list, or a refusal.
-#[derive(Clone, Copy)]
-pub enum Listed {
-    Done(usize),
+// Why no list is made.
+#[derive(Clone, Copy, Debug, PartialEq, Eq)]
+pub enum ListError {
     WrongIncoming,
     WrongOutgoing,
+}
+
+impl Refusal for ListError {
+    ghost refusal_of = { refusal_of };
+
+    fn number(self) -> u8 {
+        match self {
+            ListError::WrongIncoming => 1,
+            ListError::WrongOutgoing => 2,
+        }
+    }
 }
 
 // The runs of a right capture, put into a list of zeros; the answer is the used length. The first count is its own distance from 0.
@@ -24,27 +35,25 @@ fn put_runs(capture: &[u8], list: &mut [u8]) -> usize
 {
     let mut last: u16 = 0;
     let mut used: usize = 0;
-    let mut i: usize = 0;
-    while i < capture.len() / 2 {
+    for i in 0..capture.len() / 2 {
         let count = edge_counts::count_at(capture, i);
         let run = edge_counts::ticks(last, count);
         used = put_number(list, used, run);
         last = count;
-        i += 1;
     }
     used
 }
 
-// `list` becomes the list of the capture's runs: the first count, and then each distance, in groups of seven bits.
-pub fn runs_of(capture: &[u8], list: &mut [u8]) -> Listed
+// `list` becomes the list of the capture's runs: the first count, and then each distance, in groups of seven bits. With it comes its used length.
+pub fn runs_of(capture: &[u8], list: &mut [u8]) -> Result<usize, ListError>
     ensures { outcome (say_of result) list.new ≡ keeping capture.now list.old }
 {
     outcome::wipe(list, 98304);
     if !edge_counts::is_capture(capture) {
-        return Listed::WrongIncoming;
+        return Err(ListError::WrongIncoming);
     }
     if list.len() != 98304 {
-        return Listed::WrongOutgoing;
+        return Err(ListError::WrongOutgoing);
     }
-    Listed::Done(put_runs(capture, list))
+    Ok(put_runs(capture, list))
 }

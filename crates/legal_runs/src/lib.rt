@@ -5,14 +5,11 @@ ghost use Rattle.std.specs.Prelude.{◌≡◌};
 ghost use Rattle.replaying.specs.Replay.{first_illegal};
 ghost use Rattle.legal_runs.specs.EdgeBits.{runs, edge_bits};
 
-use edges::Step;
-
 // The bits from edge i to the next: the last edge is a bit of its own.
 pub fn bits_at(capture: &[u8], i: usize) -> usize
     ensures { result ≡ edge_bits (runs capture.now) i }
 {
-    let step = edges::run_at(capture, i);
-    let Step::Run(ticks) = step else {
+    let Some(ticks) = edges::run_at(capture, i) else {
         return 1;
     };
     (ticks as usize + 4) / 8
@@ -22,16 +19,12 @@ pub fn bits_at(capture: &[u8], i: usize) -> usize
 pub fn first_illegal(capture: &[u8]) -> usize
     ensures { result ≡ first_illegal (runs capture.now) }
 {
-    let mut i: usize = 0;
-    while i + 1 < capture.len() / 2 {
+    let runs = (capture.len() / 2).saturating_sub(1);
+    for i in 0..runs {
         let bits = bits_at(capture, i);
-        if bits < 3 {
+        if bits < 3 || 11 < bits {
             return i;
         }
-        if 11 < bits {
-            return i;
-        }
-        i += 1;
     }
-    i
+    runs
 }

@@ -35,10 +35,8 @@ pub fn list_changes(before: &[u8], after: &[u8], list: &mut [u8]) -> usize
     }
     outcome::clear(list);
     let mut n: usize = 0;
-    let mut i: usize = 0;
-    while i < 2352 {
+    for i in 0..2352 {
         n = note(list, n, i, before[i], after[i]);
-        i += 1;
     }
     n
 }

@@ -6,7 +6,7 @@ use Prim.Native.Nat.{ℕ, suc, ◌-◌, ◌≤◌, ◌<◌}
 use native.Mathlib.Omega.{arith}
 use lib.Bits.{bit_xor}
 use lib.ListN.{length, get_or, drop, length-drop}
-use lib.Seq.{drop-cons, drop-length, get_or-set_same}
+use lib.Seq.{drop-cons, drop-length, get_or-set_same, get_or-set_other}
 use Rattle.field.specs.Field.{times_alpha, power, mul}
 use Rattle.field.specs.Field.Powers.{power-lt, power_zero, power-suc}
 use Rattle.field.specs.Inverse.{InverseOf}
@@ -25,6 +25,10 @@ front m i h k =
 -- the mark at p counts as 0 among those of the other places
 pub other_self : (m : List ℕ) (p i : ℕ) → i < length m → i ≡ p → 0 ≡ get_or (others m p) i 0
 other_self m p i h e = let l : p < length m = omega arith in sym (ap (λ (k : ℕ). get_or (others m p) k 0) e ∙ get_or-set_same m p 0 0 l)
+
+-- and each other one as it stands
+pub other_kept : (m : List ℕ) (p i : ℕ) → (i ≡ p → ⊥) → get_or (others m p) i 0 ≡ get_or m i 0
+other_kept m p i n = get_or-set_other m p i 0 0 n
 
 -- ---- the sums s twisted, and the factor of y
 

@@ -1,24 +1,13 @@
 // What the lost bytes of a word are wrong by (document 02, §7), from its four sums.
 #![tactic(auto)]
 
-ghost use Rattle.std.specs.Prelude.{◌≡◌, cond, ◌<◌, eqb, length, get_or};
+ghost use Rattle.std.specs.Prelude.{◌≡◌, cond, ◌<◌, eqb, length};
 ghost use Rattle.xor.specs.Added.{added};
-ghost use Rattle.erasures.specs.Errors.{others, error_at, error_of, errors};
+ghost use Rattle.erasures.specs.Errors.{error_at, error_of, errors};
 
 use inverses::inverse;
 use products::{product, times_alpha};
 use twists::{power_of, twisted_by};
-
-// The mark at i among those of the places other than p.
-fn other_mark(marks: &[u8], p: usize, i: usize) -> u8
-    requires { i < length marks.now }
-    ensures { result ≡ get_or (others marks.now p) i 0 }
-{
-    if i == p {
-        return 0;
-    }
-    marks[i]
-}
 
 // What the lost byte at p is wrong by: the sums are twisted by the weight of each other lost byte, from the end on.
 fn error_at(marks: &[u8], s: [u8; 4], p: usize) -> u8
@@ -29,12 +18,10 @@ fn error_at(marks: &[u8], s: [u8; 4], p: usize) -> u8
     let mut t = s;
     let mut f: u8 = 1;
     let mut x: u8 = 1;
-    let mut i = marks.len();
-    while 0 < i {
-        i -= 1;
+    for i in (0..marks.len()).rev() {
         let w = x;
         x = times_alpha(w);
-        if other_mark(marks, p, i) != 0 {
+        if i != p && marks[i] != 0 {
             t = twisted_by(t, w);
             f = product(f, y ^ w);
         }
@@ -61,9 +48,7 @@ pub fn add_errors(marks: &[u8], s: [u8; 4], word: &mut [u8])
     if marks.len() != word.len() {
         return;
     }
-    let mut i: usize = 0;
-    while i < marks.len() {
-        word[i] = word[i] ^ error_of(marks, s, i);
-        i += 1;
+    for i in 0..marks.len() {
+        word[i] ^= error_of(marks, s, i);
     }
 }

@@ -1,5 +1,5 @@
 // Marks (document 02, §7): one that is not 0 says that its byte is lost.
-#![tactic(auto)]
+#![tactic(auto, using(crate::proofs::Counting::weight_is_count))]
 
 ghost use Rattle.std.specs.Prelude.{◌≡◌, eqb};
 ghost use Rattle.codeword.specs.Code.{weight};
@@ -8,28 +8,13 @@ ghost use Rattle.codeword.specs.Code.{weight};
 fn unmarked(marks: &[u8]) -> bool
     ensures { result ≡ eqb (weight marks.now) 0 }
 {
-    let mut any: u8 = 0;
-    let mut i: usize = 0;
-    while i < marks.len() {
-        any = any | marks[i];
-        i += 1;
-    }
-    any == 0
+    marks.iter().fold(0u8, |any, mark| any | *mark) == 0
 }
 
 fn counted(marks: &[u8]) -> usize
     ensures { result ≡ weight marks.now }
 {
-    let mut n: usize = 0;
-    let mut i: usize = 0;
-    while i < marks.len() {
-        let mark = marks[i];
-        i += 1;
-        if mark != 0 {
-            n += 1;
-        }
-    }
-    n
+    marks.iter().filter(|mark| **mark != 0).count()
 }
 
 // How many bytes are marked; mostly none is.

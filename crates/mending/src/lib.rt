@@ -16,11 +16,9 @@ fn mend_all(s: &mut [u8], parity: Parity, s0: &[u8], s1: &[u8]) -> bool
     ensures { (result ≡ each_near parity s.old) × Passed parity s.old s.new }
 {
     let mut near = true;
-    let mut k: usize = 0;
-    while k < s0.len() {
-        let mended = mend(s, parity, k as u8, s0[k], s1[k]);
+    for k in 0..s0.len() {
+        let mended = mend(s, parity, k as u8, [s0[k], s1[k]]);
         near = mended & near;
-        k += 1;
     }
     near
 }
@@ -39,7 +37,8 @@ pub fn p_pass(s: &mut [u8]) -> bool
     mend_all(s, Parity::P, &s0, &s1)
 }
 
-// The same for the Q codewords, their parity included.
+// The same for the Q codewords, their parity included. P's rows lie in the Sector and Q's are gathered first; what the two share are
+// `sweep::sums` and `mend_all`.
 pub fn q_pass(s: &mut [u8]) -> bool
     ensures { Pass Parity.Q s.old result s.new }
 {

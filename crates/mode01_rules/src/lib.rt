@@ -5,7 +5,7 @@ ghost use Rattle.mode01_rules.specs.Rules.{Tests};
 
 use address::HeaderTime;
 
-// Whether they all hold; of other than 2,352 bytes they do not.
+// Whether they all hold; of other than 2,352 bytes they do not. A test at a time: as one chain of `&&` the proof of it did not close.
 pub fn rules_right(s: &[u8]) -> bool
     ensures { Tests s.now result }
 {

@@ -5,25 +5,21 @@ ghost use Rattle.std.specs.Prelude.{◌≡◌};
 ghost use Rattle.sector.specs.Layout.{user_length};
 ghost use Rattle.modes.specs.Modes.{is_written};
 
-// Whether a mode is written.
+// Whether a mode is written. Any number may be asked, here and below, since the writer takes any and refuses.
+#[tactic(auto, unfolding(crate::specs::Modes::is_written))]
 pub fn is_written(mode: u8) -> bool
     ensures { result ≡ is_written mode }
 {
-    if mode == 1 {
-        return true;
-    }
-    mode == 2
+    matches!(mode, 1 | 2)
 }
 
 // How many bytes of user data a mode has.
 pub fn user_length(mode: u8) -> usize
     ensures { result ≡ user_length mode }
 {
-    if mode == 1 {
-        return 2048;
+    match mode {
+        1 => 2048,
+        2 => 2336,
+        _ => 0,
     }
-    if mode == 2 {
-        return 2336;
-    }
-    0
 }

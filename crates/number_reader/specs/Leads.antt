@@ -1,9 +1,8 @@
 -- The number that stands at a place of a list (document 02, §5).
 -- Assumes nothing.
-use Rattle.std.specs.Prelude.{◌≡◌, List, ◌++◌, ℕ, ◌+◌, ◌<◌, length, drop}
+use Rattle.std.specs.Prelude.{◌≡◌, List, ◌++◌, ℕ, ◌+◌, ◌<◌, Option, Some, None, length, drop}
 use Rattle.captures.specs.Number.{shortest}
 use Rattle.number_reader.specs.declared.Leading.{Leading}
-use Rattle.number_reader.specs.declared.Leading.TheVariants.{Number, Malformed}
 pub mod Says
 pub mod One
 
@@ -17,6 +16,6 @@ pub record Stands (list : List ℕ) (at n k : ℕ) : Type 0 where
 abbrev pub NoneStands : List ℕ → ℕ → Type 0
 NoneStands list at = (n : ℕ) (rest : List ℕ) → n < 65536 → drop at list ≡ shortest n ++ rest → ⊥
 
-abbrev pub Leads : List ℕ → ℕ → Leading → Type 0
-Leads list at (Number n k) = Stands list at n k
-Leads list at Malformed = NoneStands list at
+abbrev pub Leads : List ℕ → ℕ → Option Leading → Type 0
+Leads list at (Some x) = Stands list at x.number x.taken
+Leads list at None = NoneStands list at

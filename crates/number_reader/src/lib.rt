@@ -5,11 +5,11 @@ ghost use Rattle.std.specs.Prelude.{◌≡◌, ◌<◌};
 ghost use Rattle.number_reader.specs.Leads.{Leads};
 ghost use Rattle.number_reader.specs.Inner.{ByteAt};
 
-// What stands at a place of a list: a number in its shortest form and the bytes that it takes, or none.
-#[derive(Clone, Copy)]
-pub enum Leading {
-    Number(u16, usize),
-    Malformed,
+// A number that stands in a list in its shortest form, and the bytes that it takes.
+#[derive(Clone, Copy, Debug, PartialEq, Eq)]
+pub struct Leading {
+    pub number: u16,
+    pub taken: usize,
 }
 
 fn wide(x: u8) -> u16
@@ -28,31 +28,40 @@ fn byte_at(list: &[u8], i: usize) -> u16
     wide(list[i])
 }
 
-// The number at place `at`, of which there is none at the end. A group of 0 behind another says nothing, and behind the end there is one; a third group above 3 would pass 65,535,
+// The number at place `at`, if there is one: there is none at the end. A group of 0 behind another says nothing, and behind the end there is one; a third group above 3 would pass 65,535,
 // or go on.
-pub fn number_at(list: &[u8], at: usize) -> Leading
+pub fn number_at(list: &[u8], at: usize) -> Option<Leading>
     ensures { Leads list.now at result }
 {
     if list.len() <= at {
-        return Leading::Malformed;
+        return None;
     }
     let a = byte_at(list, at);
     if a < 128 {
-        return Leading::Number(a, 1);
+        return Some(Leading {
+            number: a,
+            taken: 1,
+        });
     }
     let b = byte_at(list, at + 1);
     if b == 0 {
-        return Leading::Malformed;
+        return None;
     }
     if b < 128 {
-        return Leading::Number(a - 128 + 128 * b, 2);
+        return Some(Leading {
+            number: a - 128 + 128 * b,
+            taken: 2,
+        });
     }
     let c = byte_at(list, at + 2);
     if c == 0 {
-        return Leading::Malformed;
+        return None;
     }
     if c > 3 {
-        return Leading::Malformed;
+        return None;
     }
-    Leading::Number(a - 128 + 128 * (b - 128) + 16384 * c, 3)
+    Some(Leading {
+        number: a - 128 + 128 * (b - 128) + 16384 * c,
+        taken: 3,
+    })
 }

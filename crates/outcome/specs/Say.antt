@@ -1,12 +1,17 @@
 -- What every entry answers (document 01, "Numbers that come back"), and what a refusal leaves in an outgoing buffer.
 -- Assumes nothing.
-use Rattle.std.specs.Prelude.{Bool, true, false, cond, List, [], ℕ, eqb, length, replicate}
+use Rattle.std.specs.Prelude.{Bool, true, false, cond, List, [], ℕ, Result, Ok, Err, eqb, length, replicate}
 pub mod Refusals
 
 -- a step is done, with the values that come back with it, or refused with document 01's number and the values that come with that
 pub data Say : Type 0 where
   done : List ℕ → Say
   refused : ℕ → List ℕ → Say
+
+-- what is said by a result: the values of what is done, or the number of the refusal
+abbrev pub said_by : {A E : Type 0} → (A → List ℕ) → (E → ℕ) → Result A E → Say
+said_by values refusal_of (Ok a) = done (values a)
+said_by values refusal_of (Err e) = refused (refusal_of e) []
 
 -- a demand: where its test fails the number comes back, and otherwise the demands after it decide
 abbrev pub demand : Bool → ℕ → Say → Say

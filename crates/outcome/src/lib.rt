@@ -1,18 +1,22 @@
 // What every entry answers, and the two things that every entry does with a lent buffer.
 #![tactic(auto)]
 
-ghost use Rattle.std.specs.Prelude.{◌≡◌, cond, eqb, length, replicate};
+ghost use Rattle.std.specs.Prelude.{◌≡◌, ℕ, cond, eqb, length, replicate};
 ghost use Rattle.outcome.specs.Say.{cleared};
+
+// Why an entry refuses: each refusal has document 01's number.
+pub trait Refusal {
+    ghost refusal_of: { Self → ℕ };
+
+    fn number(self) -> u8
+        ensures { result ≡ refusal_of self };
+}
 
 // Every byte of `out` becomes 0.
 pub fn clear(out: &mut [u8])
     ensures { out.new ≡ replicate (length out.old) 0 }
 {
-    let mut i: usize = 0;
-    while i < out.len() {
-        out[i] = 0;
-        i += 1;
-    }
+    out.fill(0);
 }
 
 // What a refusal does to an outgoing buffer: zeros if its length is right, and nothing else.
@@ -32,10 +36,6 @@ pub fn copy(from: &[u8], to: &mut [u8]) -> bool
     if from.len() != to.len() {
         return false;
     }
-    let mut i: usize = 0;
-    while i < from.len() {
-        to[i] = from[i];
-        i += 1;
-    }
+    to.copy_from_slice(from);
     true
 }

@@ -1,20 +1,17 @@
 -- Loops that write a list with its pairs exchanged: a pair a turn, and a frame a turn.
 -- Assumes nothing.
 use mathlib.Core.Path.{◌≡◌, sym, ap, subst, ◌∙◌}
-use mathlib.Core.Bool.{Bool, cond}
 use mathlib.Core.List.{List}
 use Prim.Native.Nat.{ℕ, ◌+◌, ◌-◌, ◌*◌, ◌/◌, ◌%◌, ◌<◌, ◌≤◌}
 use native.Mathlib.Omega.{arith}
 use borrow.Rule.Slice.PartMut.{put_mid}
-use lib.Dec.{eqb}
 use lib.ListN.{length, get_or, set, take, drop, length-drop}
 use lib.Seq.{length-take-le}
 use Rattle.outcome.specs.Buffer.{Filling}
-use Rattle.outcome.specs.Buffer.Filled.{filling_long, filling_more, filling-part}
+use Rattle.outcome.specs.Buffer.Filled.{filling_more, filling-part}
 use Rattle.outcome.specs.Buffer.Part.{part-back}
 use Rattle.pair_exchange.specs.Exchange.{exchanged}
 use Rattle.pair_exchange.specs.Exchange.Pairs.{length_exchanged, exchanged-at, exchanged-part}
-use Rattle.outcome.specs.Buffer.Lengths.{same_lengths}
 
 pub pair_more : (d s out : List ℕ) (k : ℕ) → Filling d (exchanged s) (2 * k) out → 2 * k + 1 < length s
     → Filling d (exchanged s) (2 * (k + 1)) (set (set out (2 * k) (get_or s (2 * k + 1) 0)) (2 * k + 1) (get_or s (2 * k) 0))
@@ -50,20 +47,17 @@ frame-exchanged s i h =
     (ap (λ (k : ℕ). take 24 (drop k (exchanged s))) (sym e) ∙ exchanged-part (12 * i) 12 s (omega arith)
     ∙ ap (λ (k : ℕ). exchanged (take 24 (drop k s))) e)
 
-module _ (d s out part made : List ℕ) (i : ℕ) (r : Bool) where
+module _ (d s out part made : List ℕ) (i : ℕ) where
   abbrev lent : List ℕ → List ℕ
   lent l = take (24 * i + 24 - 24 * i) (drop (24 * i) l)
 
   -- a frame that is made of the lent bytes, and then copied into the lent part of the buffer
   pub frame_more : Filling d (exchanged s) (24 * i) out → length s % 24 ≡ 0 → i < length s / 24 → made ≡ exchanged (lent s)
-      → (r ≡ eqb (length made) (length (lent out))) × (part ≡ cond r made (lent out))
+      → part ≡ made
       → Filling d (exchanged s) (24 * (i + 1)) (put_mid (24 * i) (24 * i + 24 - 24 * i) out part)
-  frame_more f h l m c =
+  frame_more f h l m copied =
       let long : length (exchanged s) ≡ length s = length_exchanged s in
       let right : made ≡ exchanged (frame i s) = m ∙ ap exchanged (lent-frame i s) in
-      let there : length made ≡ 24 = ap length right ∙ length_exchanged (frame i s) ∙ length-frame i s (omega arith) in
-      let here : length (lent out) ≡ 24 = ap length (lent-frame i out) ∙ length-frame i out (omega (arith, filling_long f, f.fits)) in
-      let copied : part ≡ made = same_lengths r (length made) (length (lent out)) part made (lent out) c (there ∙ sym here) in
       let back = part-back (24 * i) (24 * i + 24) out part (omega arith) in
       let on : 24 * i + 24 ≡ 24 * (i + 1) = omega arith in
       subst (λ (n : ℕ). Filling d (exchanged s) n (put_mid (24 * i) (24 * i + 24 - 24 * i) out part)) on

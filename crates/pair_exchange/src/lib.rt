@@ -9,10 +9,7 @@ ghost use Rattle.pair_exchange.specs.Exchange.{exchanged, whole_frames};
 pub fn exchange_pairs(from: &[u8], out: &mut [u8]) -> bool
     ensures { (result ≡ whole_frames from.now out.old) × (out.new ≡ cond result (exchanged from.now) out.old) }
 {
-    if from.len() != out.len() {
-        return false;
-    }
-    if from.len() % 24 != 0 {
+    if from.len() != out.len() || from.len() % 24 != 0 {
         return false;
     }
     put_exchanged(from, out);
@@ -24,13 +21,10 @@ fn put_exchanged(from: &[u8], out: &mut [u8])
     requires { (length from.now % 24 ≡ 0) × (length out.old ≡ length from.now) }
     ensures { out.new ≡ exchanged from.now }
 {
-    let mut i: usize = 0;
-    while i < from.len() / 24 {
+    for i in 0..from.len() / 24 {
         let start = 24 * i;
         let end = start + 24;
-        let frame = exchanged_frame(&from[start..end]);
-        outcome::copy(&frame, &mut out[start..end]);
-        i += 1;
+        out[start..end].copy_from_slice(&exchanged_frame(&from[start..end]));
     }
 }
 
@@ -40,14 +34,10 @@ fn exchanged_frame(bytes: &[u8]) -> [u8; 24]
     ensures { result ≡ exchanged bytes.now }
 {
     let mut frame = [0u8; 24];
-    let mut pair: usize = 0;
-    while pair < 12 {
+    for pair in 0..12 {
         let i = 2 * pair;
-        let even = bytes[i];
-        let odd = bytes[i + 1];
-        frame[i] = odd;
-        frame[i + 1] = even;
-        pair += 1;
+        frame[i] = bytes[i + 1];
+        frame[i + 1] = bytes[i];
     }
     frame
 }

@@ -15,6 +15,7 @@ use Rattle.field.specs.Field.{power, mul}
 use Rattle.codeword.specs.Code.{sum, Codeword}
 use Rattle.codeword.specs.Parity.{WithSums}
 use Rattle.codeword.specs.Parity.One.{parity_from_sums_lem}
+use Rattle.word_parity.proofs.Pair.{two_listed}
 use Rattle.sweep.specs.Columns.{Swept}
 use Rattle.sweep.specs.Columns.Fit.{swept_0, swept_1}
 use Rattle.sweep.specs.Columns.Sums.{bytes_column, length-sums, sums_at}
@@ -50,7 +51,7 @@ parting_none {rows} {a} {b} {p} {q} h s e z = subst (λ (w : ℕ). Parting w row
         }
 
 module _ {w k : ℕ} {rows p q : List ℕ} (f : Parting w rows k p q) where
-  pub parting_more : (x y : ℕ) → k < w → WithSums (get_or p k 0 ∷ mul (get_or q k 0) (power 2) ∷ []) (x ∷ y ∷ [])
+  parting_more : (x y : ℕ) → k < w → WithSums (get_or p k 0 ∷ mul (get_or q k 0) (power 2) ∷ []) (x ∷ y ∷ [])
       → Parting w rows (k + 1) (set p k x) (set q k y)
   parting_more x y h s =
       record {
@@ -82,6 +83,13 @@ module _ {w k : ℕ} {rows p q : List ℕ} (f : Parting w rows k p q) where
           let e : k ≡ m = omega arith in
           subst (λ (n : ℕ). Codeword 2 (whole_column w rows n ++ (get_or (set p k x) n 0 ∷ get_or (set q k y) n 0 ∷ []))) e
           (moved k (get_or-set_same p k x 0 (omega (arith, f.long_p))) (get_or-set_same q k y 0 (omega (arith, f.long_q))) new)
+
+  -- the two bytes as they come back
+  pub parting_pair : (t : List ℕ) → k < w → WithSums (get_or p k 0 ∷ mul (get_or q k 0) (power 2) ∷ []) t
+      → Parting w rows (k + 1) (set p k (get_or t 0 0)) (set q k (get_or t 1 0))
+  parting_pair t h s =
+      parting_more (get_or t 0 0) (get_or t 1 0) h
+      (subst (λ (l : List ℕ). WithSums (get_or p k 0 ∷ mul (get_or q k 0) (power 2) ∷ []) l) (two_listed t s.long) s)
 
   pub parting_all : w ≤ k → ParityRows w rows p q
   parting_all h = record { long_p = f.long_p; long_q = f.long_q; code = λ m l. f.code m (omega arith) }

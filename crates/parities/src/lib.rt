@@ -15,12 +15,10 @@ fn parity_rows(rows: &[u8], p0: &mut [u8], p1: &mut [u8])
     ensures { ParityRows (length p0.old) rows.now p0.new p1.new }
 {
     sweep::sums(rows, p0, p1);
-    let mut k: usize = 0;
-    while k < p0.len() {
-        let p = parity_from_sums(p0[k], p1[k]);
-        p0[k] = p.0;
-        p1[k] = p.1;
-        k += 1;
+    for k in 0..p0.len() {
+        let [x, y] = parity_from_sums([p0[k], p1[k]]);
+        p0[k] = x;
+        p1[k] = y;
     }
 }
 
@@ -40,7 +38,7 @@ pub fn put_p(s: &mut [u8]) -> bool
 }
 
 // The Q parity, bytes 2,248 to 2,351, is put right and the answer is true. Where there are not 2,352 bytes nothing changes and the
-// answer is false.
+// answer is false. P's rows lie in the Sector and Q's are gathered first; what the two share are `parity_rows` and `lay`.
 pub fn put_q(s: &mut [u8]) -> bool
     ensures { PutQ s.old result s.new }
 {

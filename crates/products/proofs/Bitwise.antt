@@ -1,8 +1,7 @@
 -- The product bit by bit: what is summed so far, plus what the bits that are left still give, stays the product.
 -- Assumes nothing.
 use mathlib.Core.Path.{◌≡◌, refl, sym, ap, ◌∙◌}
-use Prim.Native.Nat.{ℕ, zero, suc, ◌-◌, ◌*◌, ◌/◌, ◌%◌, ◌<◌}
-use native.Mathlib.Omega.{arith}
+use Prim.Native.Nat.{ℕ, suc, ◌*◌, ◌/◌, ◌%◌, ◌<◌}
 use lib.Bits.{bit_xor, xor_zero_r}
 use Rattle.xor.specs.Xor.Group.{xor_assoc}
 use Rattle.field.specs.Field.{times_alpha, mul_bits, mul}
@@ -18,15 +17,13 @@ unfolding mul
 summing_none a b h = record { byte = h; is = refl }
 
 module _ {m n a b s : ℕ} (f : Summing m n a b s) where
-  pub summing_more : (t : ℕ) → t ≡ times_alpha a → 0 < n → Summing m (n - 1) t (b / 2) (bit_xor s (b % 2 * a))
+  pub summing_more : (k t : ℕ) → n ≡ suc k → t ≡ times_alpha a → Summing m k t (b / 2) (bit_xor s (b % 2 * a))
   unfolding mul_bits
-  summing_more t q h = rw q (record { byte = times_alpha-lt a f.byte; is = go n h f.is })
-    where
-      go : (k : ℕ) → 0 < k → bit_xor s (mul_bits k a b) ≡ m → bit_xor (bit_xor s (b % 2 * a)) (mul_bits (k - 1) (times_alpha a) (b / 2)) ≡ m
-      go zero l e = omega arith
-      go (suc k) l e =
-          let p : suc k - 1 ≡ k = omega arith in
-          rw p (xor_assoc s (b % 2 * a) (mul_bits k (times_alpha a) (b / 2)) ∙ e)
+  summing_more k t e q =
+      rw q (record {
+        byte = times_alpha-lt a f.byte;
+        is = xor_assoc s (b % 2 * a) (mul_bits k (times_alpha a) (b / 2)) ∙ ap (λ (i : ℕ). bit_xor s (mul_bits i a b)) (sym e) ∙ f.is;
+      })
 
   pub summing_all : n ≡ 0 → s ≡ m
   unfolding mul_bits

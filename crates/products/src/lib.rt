@@ -2,7 +2,7 @@
 #![tactic(auto)]
 
 ghost use Rattle.std.specs.Prelude.{◌≡◌};
-ghost use Rattle.field.specs.Field.{times_alpha, mul};
+ghost use Rattle.field.specs.Field.{times_alpha, power, mul};
 
 // α, α² and α³.
 pub const ALPHA: u8 = 2;
@@ -21,6 +21,17 @@ pub fn times_alpha(x: u8) -> u8
     (x % 128 * 2) ^ (x / 128 * POLYNOMIAL)
 }
 
+// x times α^n.
+pub fn times_power(x: u8, n: usize) -> u8
+    ensures { result ≡ mul x (power n) }
+{
+    let mut product = x;
+    for _ in 0..n {
+        product = times_alpha(product);
+    }
+    product
+}
+
 // The product of a and b: for each bit of b that is set, a times that power of α.
 pub fn product(a: u8, b: u8) -> u8
     ensures { result ≡ mul a b }
@@ -28,12 +39,10 @@ pub fn product(a: u8, b: u8) -> u8
     let mut sum: u8 = 0;
     let mut shifted = a;
     let mut rest = b;
-    let mut left: u8 = 8;
-    while 0 < left {
-        sum = sum ^ (rest % 2 * shifted);
+    for _ in 0..8u8 {
+        sum ^= rest % 2 * shifted;
         shifted = times_alpha(shifted);
-        rest = rest / 2;
-        left -= 1;
+        rest /= 2;
     }
     sum
 }

@@ -8,6 +8,7 @@ use codeword::Verdict;
 use generator::is_codeword;
 
 // The longest word that the codes can mend.
+// It stands in each of three crates, whose wrong program turns it there.
 const LONGEST: usize = 255;
 
 // What to do with a word of C1 or C2.

@@ -1,12 +1,12 @@
 -- What repair answers and hands out (document 01, demand 3 and "P and Q").
 -- Assumes nothing.
-use Rattle.std.specs.Prelude.{◌≡◌, List, [], ◌∷◌, ℕ, ◌<◌, ◌≤◌, length}
-use Rattle.outcome.specs.Say.{Say, done, refused, cleared}
+use Rattle.std.specs.Prelude.{◌≡◌, List, [], ◌∷◌, ℕ, Result, ◌<◌, ◌≤◌, length}
+use Rattle.outcome.specs.Say.{Say, done, refused, said_by, cleared}
 use Rattle.codeword.specs.Code.{changes}
 use Rattle.rspc.specs.Words.{p_words, p_word}
 use Rattle.sector.specs.Correct.{CorrectMode01}
-use Rattle.repair.specs.declared.Repaired.{Repaired}
-use Rattle.repair.specs.declared.Repaired.TheVariants.{HandedOut, WrongIncoming, WrongOutgoing, NoSectorNear}
+use Rattle.repair.specs.declared.RepairError.{RepairError}
+use Rattle.repair.specs.declared.RepairError.TheVariants.{WrongIncoming, WrongOutgoing, NoSectorNear}
 pub mod One
 pub mod Exact
 pub mod Clean
@@ -31,9 +31,11 @@ pub data Repairs (r old : List ℕ) : Say → List ℕ → Type 0 where
   none-near : length r ≡ 2352 → length old ≡ 2352 → ((s : List ℕ) → Sought r s → ⊥) → Repairs r old (refused 5 []) (cleared 2352 old)
   handed_out : {s : List ℕ} → length r ≡ 2352 → length old ≡ 2352 → Sought r s → Repairs r old (done (changes r s ∷ [])) s
 
+abbrev pub refusal_of : RepairError → ℕ
+refusal_of WrongIncoming = 1
+refusal_of WrongOutgoing = 2
+refusal_of NoSectorNear = 5
+
 -- document 01's number and values for each answer
-abbrev pub say_of : Repaired → Say
-say_of (HandedOut changed) = done (changed ∷ [])
-say_of WrongIncoming = refused 1 []
-say_of WrongOutgoing = refused 2 []
-say_of NoSectorNear = refused 5 []
+abbrev pub say_of : Result ℕ RepairError → Say
+say_of = said_by (λ changed. changed ∷ []) refusal_of

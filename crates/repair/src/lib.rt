@@ -1,35 +1,48 @@
 // Repair of a Sector (document 01, demand 3).
 #![tactic(auto)]
 
-ghost use Rattle.repair.specs.Repair.{Repairs, say_of};
+ghost use Rattle.repair.specs.Repair.{Repairs, refusal_of, say_of};
 
-// What becomes of a Sector: it is handed out with the count of changed bytes, or refused.
-#[derive(Clone, Copy)]
-pub enum Repaired {
-    HandedOut(usize),
+use outcome::Refusal;
+
+// Why no Sector is handed out.
+#[derive(Clone, Copy, Debug, PartialEq, Eq)]
+pub enum RepairError {
     WrongIncoming,
     WrongOutgoing,
     NoSectorNear,
 }
 
+impl Refusal for RepairError {
+    ghost refusal_of = { refusal_of };
+
+    fn number(self) -> u8 {
+        match self {
+            RepairError::WrongIncoming => 1,
+            RepairError::WrongOutgoing => 2,
+            RepairError::NoSectorNear => 5,
+        }
+    }
+}
+
 // Hands out the one correct Sector of Mode 01 that differs from what came in in at most one byte of each P codeword, with the count
 // of changed bytes, or refuses.
-pub fn repair(received: &[u8], out: &mut [u8]) -> Repaired
+pub fn repair(received: &[u8], out: &mut [u8]) -> Result<usize, RepairError>
     ensures { Repairs received.now out.old (say_of result) out.new }
 {
     if received.len() != 2352 {
         outcome::wipe(out, 2352);
-        return Repaired::WrongIncoming;
+        return Err(RepairError::WrongIncoming);
     }
     if out.len() != 2352 {
-        return Repaired::WrongOutgoing;
+        return Err(RepairError::WrongOutgoing);
     }
     let mut s = sector::blank();
     let near = candidates::candidate(received, &mut s);
     let right = mode01_rules::rules_right(&s);
     if !(near & right) {
         outcome::clear(out);
-        return Repaired::NoSectorNear;
+        return Err(RepairError::NoSectorNear);
     }
-    Repaired::HandedOut(handing_out::hand_out(received, &s, out))
+    Ok(handing_out::hand_out(received, &s, out))
 }

@@ -2,7 +2,7 @@
 -- Assumes nothing.
 use mathlib.Core.Path.{◌≡◌, ap, ◌∙◌, subst}
 use mathlib.Core.List.{List, ◌∷◌}
-use Prim.Native.Nat.{ℕ, suc, ◌+◌, ◌*◌, ◌/◌, ◌<◌, ◌≤◌}
+use Prim.Native.Nat.{ℕ, suc, ◌+◌, ◌-◌, ◌*◌, ◌/◌, ◌<◌, ◌≤◌}
 use native.Mathlib.Numerals.{add-one}
 use native.Mathlib.Omega.{arith}
 use lib.ListN.{length, get_or, drop, drop_of_length-le}
@@ -31,10 +31,7 @@ module _ {w : List ℕ} {k : ℕ} (t : EdgeThere w k) where
       }
 
   module _ {bits j : ℕ} (s : Counting w k bits j) where
-    pub counting_within : j ≤ length w / 2
-    counting_within = omega (arith, s.upto, runs_long w)
-
-    module _ (h : j + 1 < length w / 2) (b : ℕ) (e : b ≡ edge_bits (runs w) j) where
+    module _ (h : j < length w / 2 - 1) (b : ℕ) (e : b ≡ edge_bits (runs w) j) where
       inside : j < length (runs w)
       inside = omega (arith, runs_long w)
 
@@ -62,7 +59,7 @@ module _ {w : List ℕ} {k : ℕ} (t : EdgeThere w k) where
                 omega (arith, s.is, b_is, m, n);
           }
 
-    pub counting_all : length w / 2 ≤ j + 1 → bits / 588 ≡ length (channel (drop k (runs w))) / 588
+    pub counting_all : length w / 2 - 1 ≤ j → bits / 588 ≡ length (channel (drop k (runs w))) / 588
     unfolding bits_of_runs
     counting_all h =
         let l : length (runs w) ≤ j = omega (arith, runs_long w) in

@@ -1,14 +1,14 @@
 -- The lines of the Sectors of a batch, one after the other.
 -- Assumes nothing.
 use Rattle.std.proofs.Common.{◌≡◌, refl, sym, ap, ◌∙◌, subst, Bool, true, false, List, [], ◌∷◌, ◌⊎◌, inl, inr, ℕ, zero, suc, ◌+◌, ◌-◌, ◌*◌, ◌≤◌, ◌<◌, add-one, arith, length, take, drop, get_or}
+use Rattle.std.specs.Prelude.{Result, Ok, Err}
 use Rattle.outcome.specs.First.Found.{lt-or-le}
 use Rattle.outcome.specs.Say.{done}
-use Rattle.batch.specs.declared.Answer.{Answer}
-use Rattle.batch.specs.declared.Answer.TheVariants as answers
-use Rattle.batch.specs.declared.SectorFate.{SectorFate}
+use Rattle.batch.specs.declared.BatchError.{BatchError}
+use Rattle.batch.specs.declared.BatchError.TheVariants as refusals
 use Rattle.batch.specs.Sectors.{sector_at}
 use Rattle.batch.specs.Sectors.Apart.{length_sector}
-use Rattle.batch.specs.Batch.{no_sector, fate_at, say_at, RepairsMany, wrong_incoming, wrong-outgoing, say_of}
+use Rattle.batch.specs.Batch.{SectorFate, no_sector, fate_at, say_at, RepairsMany, wrong_incoming, wrong-outgoing, say_of}
 use Rattle.batch.specs.Batch.Alone.{when_done}
 use Rattle.repair.specs.Repair as single
 use Rattle.fate_counts.specs.declared.Counts.{Counts}
@@ -23,15 +23,15 @@ use Rattle.report_lines.specs.Told.{Lines, none, next, Told, all_told, unwritten
 use Rattle.report_lines.specs.Told.Counted.{lines_counted}
 
 -- no batch was taken: no Sector came
-pub nothing : (c : Counts) (r out : List ℕ) (a : Answer) {f : List SectorFate} {new : List ℕ} → ((n : ℕ) → a ≡ answers.Done n → ⊥)
+pub nothing : (c : Counts) (r out : List ℕ) (a : Result ℕ BatchError) {f : List SectorFate} {new : List ℕ} → ((n : ℕ) → a ≡ Ok n → ⊥)
     → Some c r out → RepairsMany r out (say_of a) f new → sectors_in r ≡ 0
-nothing c r out (answers.Done n) k s p = absurd (k n refl)
-nothing c r out answers.WrongIncoming k s (wrong_incoming h) = by (lt-or-le 0 (sectors_in r))
+nothing c r out (Ok n) k s p = absurd (k n refl)
+nothing c r out (Err refusals.WrongIncoming) k s (wrong_incoming h) = by (lt-or-le 0 (sectors_in r))
   where
     by : (0 < sectors_in r) ⊎ (sectors_in r ≤ 0) → sectors_in r ≡ 0
     by (inl l) = absurd (h (sectors_in r) (record { some = l; sixteen = s.few; long = s.whole }))
     by (inr l) = omega arith
-nothing c r out answers.WrongOutgoing k s (wrong-outgoing q h) = absurd (h s.room)
+nothing c r out (Err refusals.WrongOutgoing) k s (wrong-outgoing q h) = absurd (h s.room)
 
 pub none_told : (c : Counts) (r : List ℕ) → sectors_in r ≡ 0 → Told (sectors_in r) r c Going (record { counts = c; stand = Going })
 none_told c r e =
@@ -70,7 +70,7 @@ pub no_room : {c : Counts} {k n : ℕ} → k ≡ ahead c → k < n → TooMany c
 no_room e h = record { cannot = omega arith }
 
 -- no batch was taken, and nothing is told
-pub untaken : (c : Counts) (r out : List ℕ) (a : Answer) {f : List SectorFate} {new : List ℕ} → ((n : ℕ) → a ≡ answers.Done n → ⊥)
+pub untaken : (c : Counts) (r out : List ℕ) (a : Result ℕ BatchError) {f : List SectorFate} {new : List ℕ} → ((n : ℕ) → a ≡ Ok n → ⊥)
     → RepairsMany r out (say_of a) f new → Tells c r out new (record { counts = c; stand = Going })
 untaken c r out a {f} k b =
     record {
@@ -81,9 +81,9 @@ untaken c r out a {f} k b =
       other = λ _. refl;
     }
 
-module _ {r out new : List ℕ} {f : List SectorFate} {a : Answer} {n : ℕ} (b : RepairsMany r out (say_of a) f new) (e : a ≡ answers.Done n) where
+module _ {r out new : List ℕ} {f : List SectorFate} {a : Result ℕ BatchError} {n : ℕ} (b : RepairsMany r out (say_of a) f new) (e : a ≡ Ok n) where
   taken : RepairsMany r out (done (n ∷ [])) f new
-  taken = subst (λ (x : Answer). RepairsMany r out (say_of x) f new) e b
+  taken = subst (λ (x : Result ℕ BatchError). RepairsMany r out (say_of x) f new) e b
 
   many : n ≡ sectors_in r
   many = let d = when_done taken in omega (arith, d.some.long)
@@ -113,8 +113,8 @@ module _ {r out new : List ℕ} {f : List SectorFate} {a : Answer} {n : ℕ} (b 
   pub tells_all : {c : Counts} → Countable c n → {p : Progress} → Told (sectors_in r) r c Going p → Tells c r out new p
   tells_all h t = record { says = say_of a; fates = f; repaired = b; some = λ _. t; other = λ n. absurd (n (few_enough h)) }
 
-module _ {c : Counts} {r out new : List ℕ} {f : List SectorFate} {a : Answer} {n : ℕ} (can : Countable c n) (b : RepairsMany r out (say_of a) f new)
-    (e : a ≡ answers.Done n) where
+module _ {c : Counts} {r out new : List ℕ} {f : List SectorFate} {a : Result ℕ BatchError} {n : ℕ} (can : Countable c n) (b : RepairsMany r out (say_of a) f new)
+    (e : a ≡ Ok n) where
   s : Some c r out
   s = few_enough b e can
 
@@ -130,7 +130,7 @@ module _ {c : Counts} {r out new : List ℕ} {f : List SectorFate} {a : Answer} 
         let k : i ≡ sectors_in r = omega (arith, as_many, g.upto) in
         all_told (subst (λ (m : ℕ). Lines r c m p.counts) k g.lines) g.on
 
-    module _ (h : i < n) (behind : SectorFate) (fate : Fate) (q : fate ≡ fate_from (single.say_of (get_or f i behind).repaired) (lent i new)) where
+    module _ (h : i < n) (behind : SectorFate) (fate : Fate) (q : fate ≡ fate_from (single.say_of (get_or f i behind)) (lent i new)) where
       fated : Fated (sector_at i r) fate
       fated =
           let k : 2352 * i + 2352 - 2352 * i ≡ 2352 = omega arith in
@@ -138,7 +138,7 @@ module _ {c : Counts} {r out new : List ℕ} {f : List SectorFate} {a : Answer} 
           subst (Fated (sector_at i r))
           (sym
           (q
-          ∙ ap (λ (x : SectorFate). fate_from (single.say_of x.repaired) (lent i new)) e
+          ∙ ap (λ (x : SectorFate). fate_from (single.say_of x) (lent i new)) e
           ∙ ap (λ (m : ℕ). fate_from (say_at i f) (take m (drop (2352 * i) new))) k))
           (fated_in_batch batch i h)
 

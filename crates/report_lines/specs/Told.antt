@@ -2,9 +2,8 @@
 -- Assumes nothing.
 use Rattle.std.specs.Prelude.{◌≡◌, List, ℕ, suc, ◌-◌, ◌*◌, ◌/◌, ◌≤◌, ◌<◌, length}
 use Rattle.outcome.specs.Say.{Say}
-use Rattle.batch.specs.declared.SectorFate.{SectorFate}
 use Rattle.batch.specs.Sectors.{sector_at}
-use Rattle.batch.specs.Batch.{RepairsMany}
+use Rattle.batch.specs.Batch.{SectorFate, RepairsMany}
 use Rattle.fate_counts.specs.declared.Counts.{Counts}
 use Rattle.fate_counts.specs.declared.Fate.{Fate}
 use Rattle.fate_counts.specs.Counting.{largest, counted_with}

@@ -2,30 +2,22 @@
 // report has this line where it stands.
 #![tactic(auto)]
 
-ghost use Rattle.std.specs.Prelude.{◌≤◌};
 ghost use Rattle.fate_counts.specs.Counting.{none_counted};
-ghost use Rattle.text.specs.Line.{written};
 ghost use Rattle.report_run.specs.Run.{Step, Goes};
 ghost use Rattle.report_lines.specs.Inner.Says.{Says, counted, Due};
 ghost use Rattle.report_lines.specs.Told.{Tells};
 
-use batch::Answer;
 use fate_counts::{Counts, Fate};
 use report_stand::{Progress, Stand};
-use text::Text;
 
 // Writes a line, and says whether all of it went out.
-fn print(rt: &impl Print, line: Text) -> bool
-    requires { line.len ≤ 96 }
-{
-    let n = line.len;
-    let bytes = line.bytes;
-    rt.write_all(&bytes[..n]).is_ok()
+fn print(rt: &impl Print, line: &str) -> bool {
+    rt.write_all(line.as_bytes()).is_ok()
 }
 
 // Prints the line that leads from here to `next`.
-fn say(rt: &impl Print, stand: Stand, counts: Counts, line: Text, next: Progress) -> Progress
-    requires { (line.len ≤ 96) × Step stand counts (written line) next.stand next.counts }
+fn say(rt: &impl Print, stand: Stand, counts: Counts, line: &str, next: Progress) -> Progress
+    requires { Step stand counts line.now next.stand next.counts }
     ensures { Says stand counts next result }
 {
     report_stand::after_line(print(rt, line), counts, next)
@@ -41,7 +33,7 @@ fn tell(rt: &impl Print, counts: Counts, fate: Fate) -> Progress
         counts: counts.counted(fate),
         stand: Stand::Going,
     };
-    say(rt, Stand::Going, counts, line, next)
+    say(rt, Stand::Going, counts, line.as_str(), next)
 }
 
 // Repairs the whole Sectors that came, at most sixteen, and prints the line of each, in order; where they are not such Sectors, or cannot all be
@@ -54,27 +46,20 @@ pub fn tell_each(rt: &impl Print, counts: Counts, received: &[u8], out: &mut [u8
         stand: Stand::Going,
     };
     let batch = batch::repair_many(received, out);
-    let answer = batch.answer;
-    let Answer::Done(n) = answer else {
+    let Ok(n) = batch.answer else {
         return progress;
     };
     if report_stand::sectors_ahead(counts) < n {
         return progress;
     }
     let fates = batch.fates;
-    let mut i: usize = 0;
-    while i < n {
+    for i in 0..n {
         let at = 2352 * i;
-        let one = fates[i];
-        let repaired = one.repaired;
-        let fate = fate::fate_of(repaired, &out[at..at + 2352]);
-        let before = progress.counts;
-        progress = tell(rt, before, fate);
-        let stand = progress.stand;
-        let Stand::Going = stand else {
+        let fate = fate::fate_of(fates[i], &out[at..at + 2352]);
+        progress = tell(rt, progress.counts, fate);
+        let Stand::Going = progress.stand else {
             return progress;
         };
-        i += 1;
     }
     progress
 }
@@ -88,7 +73,8 @@ pub fn open(rt: &impl Print) -> Progress
         counts,
         stand: Stand::Going,
     };
-    say(rt, Stand::Opening, counts, text::first_line(), next)
+    let line = text::first_line();
+    say(rt, Stand::Opening, counts, line.as_str(), next)
 }
 
 // Prints the count of leftover bytes.
@@ -99,7 +85,8 @@ pub fn tail(rt: &impl Print, left: u64, counts: Counts) -> Progress
         counts,
         stand: Stand::Closing,
     };
-    say(rt, Stand::AtEnd(left), counts, text::tail_line(left), next)
+    let line = text::tail_line(left);
+    say(rt, Stand::AtEnd(left), counts, line.as_str(), next)
 }
 
 // Prints the last line.
@@ -111,5 +98,5 @@ pub fn last(rt: &impl Print, counts: Counts) -> Progress
         stand: Stand::Done,
     };
     let line = text::last_line(counts.clean, counts.repaired, counts.refused);
-    say(rt, Stand::Closing, counts, line, next)
+    say(rt, Stand::Closing, counts, line.as_str(), next)
 }

@@ -5,7 +5,7 @@ ghost use Rattle.std.specs.Prelude.{◌≡◌, ◌*◌, ◌/◌};
 ghost use Rattle.report_stand.specs.Standing.{is_over, ahead, stand_after, after_line};
 
 use fate_counts::Counts;
-use input_reading::{Filled, Read};
+use input_reading::{Filled, Stop};
 
 // How a report stands: before its first line; between two Sectors; at the input's end with so many bytes left over; before its last
 // line; all said; or ended by a read or a write that failed.
@@ -31,26 +31,17 @@ pub struct Progress {
 pub fn over(stand: Stand) -> bool
     ensures { result ≡ is_over stand }
 {
-    match stand {
-        Stand::Going => false,
-        Stand::Opening => true,
-        Stand::AtEnd(_) => true,
-        Stand::Closing => true,
-        Stand::Done => true,
-        Stand::ReadFailed => true,
-        Stand::WriteFailed => true,
-    }
+    !matches!(stand, Stand::Going)
 }
 
 // How a report stands when the lines of the Sectors that came are out: it goes on only if all that were asked for came.
 pub fn stand_after(filled: Filled) -> Stand
     ensures { result ≡ stand_after filled }
 {
-    let last = filled.last;
-    match last {
-        Read::More(_) => Stand::Going,
-        Read::End => Stand::AtEnd((filled.have % 2352) as u64),
-        Read::Failed => Stand::ReadFailed,
+    match filled.stop {
+        None => Stand::Going,
+        Some(Stop::End) => Stand::AtEnd((filled.have % 2352) as u64),
+        Some(Stop::Failed) => Stand::ReadFailed,
     }
 }
 
@@ -58,8 +49,7 @@ pub fn stand_after(filled: Filled) -> Stand
 pub fn sectors_ahead(counts: Counts) -> usize
     ensures { result ≡ ahead counts }
 {
-    let room = u64::MAX - counts.sectors;
-    if room < 16 { room as usize } else { 16 }
+    (u64::MAX - counts.sectors).min(16) as usize
 }
 
 // How many of so many bytes are those of whole Sectors.

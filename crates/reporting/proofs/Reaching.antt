@@ -6,8 +6,10 @@ use Rattle.batch.specs.Sectors.Apart.{length_sector}
 use Rattle.fate_counts.specs.declared.Counts.{Counts}
 use Rattle.fate_counts.specs.Counting.{largest}
 use Rattle.input_reading.specs.declared.Filled.{Filled}
-use Rattle.input_reading.specs.declared.Read.{Read}
-use Rattle.input_reading.specs.declared.Read.TheVariants.{Failed, End, More}
+use Rattle.std.specs.Prelude.{Option, None}
+use Rattle.std.specs.Prelude as std
+use Rattle.input_reading.specs.declared.Stop.{Stop}
+use Rattle.input_reading.specs.declared.Stop.TheVariants.{Failed, End}
 use Rattle.input_reading.specs.Reading.{StoppedAt, Fills}
 use Rattle.report_stand.specs.declared.Progress.{Progress}
 use Rattle.report_stand.specs.declared.Stand.{Stand}
@@ -21,14 +23,13 @@ use Rattle.reporting.specs.Inner.Turn.{Turn}
 use Rattle.reporting.proofs.Steps.{going, turned-over}
 
 -- no more is read than there is room for
-pub within : (room have : ℕ) (last : Read) → StoppedAt room have last → have ≤ room
-within room have (More n) h = omega arith
-within room have End h = omega arith
-within room have Failed h = omega arith
+pub within : (room have : ℕ) (stop : Option Stop) → StoppedAt room have stop → have ≤ room
+within room have None h = omega arith
+within room have (std.Some stop) h = omega arith
 
 pub whole-within : (c : Counts) (filled : Filled) → Fills (2352 * ahead c) filled → 2352 * (filled.have / 2352) ≤ 37632
 whole-within c filled f =
-    let h : filled.have ≤ 2352 * ahead c = within (2352 * ahead c) filled.have filled.last f in omega arith
+    let h : filled.have ≤ 2352 * ahead c = within (2352 * ahead c) filled.have filled.stop f in omega arith
 
 -- ---- one turn
 
@@ -37,7 +38,7 @@ module _ (c : Counts) (filled : Filled) (fills : Fills (2352 * ahead c) filled) 
   -- the whole Sectors that came are few enough
   pub some-came : (out : List ℕ) → length out ≡ length r → Some c r out
   some-came out e =
-      let h : filled.have ≤ 2352 * ahead c = within (2352 * ahead c) filled.have filled.last fills in
+      let h : filled.have ≤ 2352 * ahead c = within (2352 * ahead c) filled.have filled.stop fills in
       record { whole = omega arith; few = omega arith; counts = omega arith; room = e }
 
   so_many : sectors_in r ≡ filled.have / 2352
@@ -69,7 +70,7 @@ module _ (n : ℕ) (p q : Progress) (on : p.stand ≡ Going) (t : Turning n p) (
   counted = subst (λ (s : Stand). Counted n s p.counts) on t.counted
 
   few : have / 2352 ≤ ahead p.counts
-  few = let w = within (2352 * ahead p.counts) have u.filled.last u.fills in omega arith
+  few = let w = within (2352 * ahead p.counts) have u.filled.stop u.fills in omega arith
 
   -- the report after some of the lines
   told_so_far : {k : ℕ} {d : Counts} → k ≤ have / 2352 → Lines u.came p.counts k d → Reached Going d × (d.sectors ≡ n + k)
@@ -80,19 +81,19 @@ module _ (n : ℕ) (p q : Progress) (on : p.stand ≡ Going) (t : Turning n p) (
       )
 
   -- and then as reading ended
-  ended : (last : Read) → StoppedAt (2352 * ahead p.counts) have last → q.stand ≡ stand_of have last
+  ended : (stop : Option Stop) → StoppedAt (2352 * ahead p.counts) have stop → q.stand ≡ stand_of have stop
       → Reached Going q.counts × (q.counts.sectors ≡ n + have / 2352) → Turning (n + ahead p.counts) q
-  ended (More m) s e a =
+  ended None s e a =
       record {
         reached = subst (λ (x : Stand). Reached x q.counts) (sym e) a.0;
         counted = subst (λ (x : Stand). Counted (n + ahead p.counts) x q.counts) (sym e) (omega (arith, a.1, s));
       }
-  ended End s e a =
+  ended (std.Some End) s e a =
       record {
         reached = subst (λ (x : Stand). Reached x q.counts) (sym e) (record { text = _; run = goes a.0.run (ends (omega arith)) });
         counted = subst (λ (x : Stand). Counted (n + ahead p.counts) x q.counts) (sym e) tt;
       }
-  ended Failed s e a =
+  ended (std.Some Failed) s e a =
       record {
         reached = subst (λ (x : Stand). Reached x q.counts) (sym e) (record { text = _; run = goes a.0.run unread });
         counted = subst (λ (x : Stand). Counted (n + ahead p.counts) x q.counts) (sym e) tt;
@@ -103,7 +104,7 @@ module _ (n : ℕ) (p q : Progress) (on : p.stand ≡ Going) (t : Turning n p) (
   turned = by u.told
     where
       by : Told (have / 2352) u.came p.counts (stand_after u.filled) q → Turning (n + ahead p.counts) q
-      by (all_told l e) = ended u.filled.last u.fills e (told_so_far (omega arith) l)
+      by (all_told l e) = ended u.filled.stop u.fills e (told_so_far (omega arith) l)
       by (unwritten {k} {fate} b l f e) =
           let a = told_so_far (omega arith) l in
           let step = tells {c = q.counts} (sector_at k u.came) (length_sector (have / 2352) k u.came u.long b) f (omega (arith, a.1, few, counted)) in
@@ -113,7 +114,7 @@ module _ (n : ℕ) (p q : Progress) (on : p.stand ≡ Going) (t : Turning n p) (
           }
 
 -- the Sectors counted where the report goes on
-sectors_counted : (n : ℕ) (p : Progress) → is_over p.stand ≡ false → Turning n p → p.counts.sectors ≡ n
+pub sectors_counted : (n : ℕ) (p : Progress) → is_over p.stand ≡ false → Turning n p → p.counts.sectors ≡ n
 sectors_counted n p e t = subst (λ (s : Stand). Counted n s p.counts) (going p.stand e) t.counted
 
 module _ (n : ℕ) (p q : Progress) (e : is_over p.stand ≡ false) (t : Turning n p) (h : n < largest) (u : Turn p.counts q) where

@@ -27,13 +27,11 @@ fn tell_whole(
 {
     let whole = report_stand::whole_bytes(filled.have);
     let told = report_lines::tell_each(rt, counts, &received[..whole], &mut out[..whole]);
-    let stand = told.stand;
-    if over(stand) {
+    if over(told.stand) {
         return told;
     }
-    let counted = told.counts;
     Progress {
-        counts: counted,
+        counts: told.counts,
         stand: report_stand::stand_after(filled),
     }
 }
@@ -59,23 +57,17 @@ fn turns<R: Read>(rt: &impl Print, input: &mut R, opened: Progress) -> Progress
     requires { Turning 0 opened }
     ensures { Turning largest result }
 {
-    let mut progress = opened;
-    let mut stand = progress.stand;
-    if over(stand) {
-        return progress;
+    if over(opened.stand) {
+        return opened;
     }
-    let mut received = [0u8; 37632];
-    let mut out = [0u8; 37632];
-    let mut sectors: u64 = 0;
-    while sectors < u64::MAX {
-        let counts = progress.counts;
-        progress = turn(rt, input, counts, &mut received, &mut out);
-        stand = progress.stand;
-        if over(stand) {
+    let mut received = [0; 37632];
+    let mut out = [0; 37632];
+    let mut progress = opened;
+    while progress.counts.sectors < u64::MAX {
+        progress = turn(rt, input, progress.counts, &mut received, &mut out);
+        if over(progress.stand) {
             return progress;
         }
-        let counted = progress.counts;
-        sectors = counted.sectors;
     }
     progress
 }
@@ -85,18 +77,14 @@ fn close(rt: &impl Print, run: Progress) -> Progress
     requires { Turning largest run }
     ensures { Reported result }
 {
-    let stand = run.stand;
-    let Stand::AtEnd(left) = stand else {
+    let Stand::AtEnd(left) = run.stand else {
         return run;
     };
-    let counts = run.counts;
-    let tailed = report_lines::tail(rt, left, counts);
-    let reached = tailed.stand;
-    let Stand::Closing = reached else {
+    let tailed = report_lines::tail(rt, left, run.counts);
+    let Stand::Closing = tailed.stand else {
         return tailed;
     };
-    let counted = tailed.counts;
-    report_lines::last(rt, counted)
+    report_lines::last(rt, tailed.counts)
 }
 
 // Says on standard error what failed.
@@ -119,7 +107,6 @@ pub fn report<R: Read>(rt: &(impl Print + Eprint), input: &mut R) -> Progress
 {
     let run = turns(rt, input, report_lines::open(rt));
     let closed = close(rt, run);
-    let stand = closed.stand;
-    complain(rt, stand);
+    complain(rt, closed.stand);
     closed
 }

@@ -1,5 +1,3 @@
--- a count put into the capture
-pub mod Putting
 -- the loop over all numbers
 pub mod Reading
 -- the ways out

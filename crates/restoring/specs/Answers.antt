@@ -1,14 +1,16 @@
 -- The answers of restoring a capture as numbers and values (document 02, §5: 1, 2, 19).
 -- Assumes nothing.
-use Rattle.std.specs.Prelude.{[], ◌∷◌}
-use Rattle.outcome.specs.Say.{Say, done, refused}
-use Rattle.restoring.specs.declared.Recaptured.{Recaptured}
-use Rattle.restoring.specs.declared.Recaptured.TheVariants.{Done, WrongIncoming, WrongOutgoing, WrongNumber}
+use Rattle.std.specs.Prelude.{[], ◌∷◌, ℕ, Result}
+use Rattle.outcome.specs.Say.{Say, said_by}
+use Rattle.restoring.specs.declared.RestoreError.{RestoreError}
+use Rattle.restoring.specs.declared.RestoreError.TheVariants.{WrongIncoming, WrongOutgoing, WrongNumber}
 pub mod One
 
+abbrev pub refusal_of : RestoreError → ℕ
+refusal_of WrongIncoming = 1
+refusal_of WrongOutgoing = 2
+refusal_of WrongNumber = 19
+
 -- with the capture comes its used length
-abbrev pub say_of : Recaptured → Say
-say_of (Done used) = done (used ∷ [])
-say_of WrongIncoming = refused 1 []
-say_of WrongOutgoing = refused 2 []
-say_of WrongNumber = refused 19 []
+abbrev pub say_of : Result ℕ RestoreError → Say
+say_of = said_by (λ used. used ∷ []) refusal_of

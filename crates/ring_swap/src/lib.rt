@@ -9,14 +9,12 @@ pub fn swap(lens: &[u8], places: &[u8], store: &mut [u8], word: &mut [u8])
     ensures { (word.new ≡ rings_out lens.now places.now store.old word.old)
         × (store.new ≡ rings_next lens.now places.now store.old word.old) }
 {
-    let rows = rings::smaller(lens.len(), word.len());
     let mut base: usize = 0;
     let mut at: usize = 0;
-    let mut k: usize = 0;
-    while k < rows {
+    // By index: a proof doesn't learn what a loop over `iter_mut` under `zip` wrote, and `at` and `base` go on at some rows only.
+    for k in 0..rings::smaller(lens.len(), word.len()) {
         let d = lens[k] as usize;
         if d == 0 {
-            k += 1;
             continue;
         }
         if places.len() <= at {
@@ -35,6 +33,5 @@ pub fn swap(lens: &[u8], places: &[u8], store: &mut [u8], word: &mut [u8])
         word[k] = oldest;
         base += d;
         at += 1;
-        k += 1;
     }
 }

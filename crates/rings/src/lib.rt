@@ -8,8 +8,5 @@ ghost use Rattle.std.specs.Prelude.{◌≡◌, ◌-◌};
 pub fn smaller(a: usize, b: usize) -> usize
     ensures { result ≡ a - (a - b) }
 {
-    if a < b {
-        return a;
-    }
-    b
+    a.min(b)
 }

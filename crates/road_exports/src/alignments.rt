@@ -3,34 +3,19 @@ ghost use Rattle.std.specs.Prelude.{◌≡◌, []};
 ghost use Rattle.outcome.specs.Say.{outcome};
 ghost use Rattle.alignment.specs.Aligned.{aligning};
 ghost use Rattle.alignment.specs.Found.{finding};
-ghost use Rattle.aligning.specs.AlignSay as written;
 ghost use Rattle.finding.specs.FindSay as searched;
-ghost use Rattle.told.specs.Told.{number_of, Tells, Told};
+ghost use Rattle.told.specs.Told.{Tells, Told};
 
-use aligning::Aligned;
-use finding::Found;
-use told::tell_three;
-
-fn tell(a: Aligned) -> u8
-    ensures { result ≡ number_of (written.say_of a) }
-{
-    match a {
-        Aligned::Done => 0,
-        Aligned::WrongIncoming => 1,
-        Aligned::UnknownPlace => 23,
-        Aligned::WrongOutgoing => 2,
-    }
-}
+use finding::{FindError, Found};
+use outcome::Refusal;
 
 // With Sectors that are found come their frame, n and number.
-fn tell_found(a: Found, values: &mut [u64; 3]) -> u8
+fn tell_found(a: Result<Found, FindError>, values: &mut [u64; 3]) -> u8
     ensures { Tells 3 (searched.say_of a) result values.new }
 {
     match a {
-        Found::At(frame, n, count) => tell_three(0, frame as u64, n as u64, count as u64, values),
-        Found::WrongIncoming => tell_three(1, 0, 0, 0, values),
-        Found::WrongOutgoing => tell_three(2, 0, 0, 0, values),
-        Found::NoSync => tell_three(24, 0, 0, 0, values),
+        Ok(f) => told::tell(0, [f.frame as u64, f.n as u64, f.count as u64], values),
+        Err(e) => told::tell(e.number(), [0; 3], values),
     }
 }
 
@@ -38,7 +23,7 @@ fn tell_found(a: Found, values: &mut [u64; 3]) -> u8
 pub extern "C" fn road_align(sectors: &[u8], n: usize, out: &mut [u8]) -> u8
     ensures { Told 0 (λ say. outcome say out.new ≡ aligning sectors.now n out.old) result [] }
 {
-    tell(aligning::align(sectors, n, out))
+    told::number(aligning::align(sectors, n, out))
 }
 
 #[unsafe(no_mangle)]

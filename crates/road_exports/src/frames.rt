@@ -5,7 +5,7 @@ ghost use Rattle.f1_frames.specs.Frames.{cutting, joining};
 ghost use Rattle.scrambling.specs.Scramble.{scrambling};
 ghost use Rattle.told.specs.Told.{Told};
 
-use entry::number;
+use told::number;
 
 #[unsafe(no_mangle)]
 pub extern "C" fn road_scramble(sector: &[u8], out: &mut [u8]) -> u8

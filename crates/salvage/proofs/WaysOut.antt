@@ -7,47 +7,40 @@ use Prim.Native.Nat.{ℕ, ◌≤◌}
 use native.Mathlib.Decide.{ℕ_discrete}
 use native.Mathlib.Omega.{arith}
 use borrow.Author.Tests.{eq-eqb}
-use lib.Dec.{eqb}
 use lib.ListN.{length, length-replicate}
+use Rattle.std.specs.Prelude.{Option, Some, None}
 use Rattle.outcome.specs.Say.{Say, done, refused, cleared}
 use Rattle.outcome.specs.Say.Refusals.{cleared-right, cleared-wrong}
-use Rattle.outcome.specs.Buffer.Lengths.{same_lengths}
 use Rattle.codeword.specs.Code.{changes}
 use Rattle.sector.specs.Layout.{zeros}
 use Rattle.sector.specs.Layout.Zeros.{length-zeros}
 use Rattle.listing.specs.Listed.{listing, fitting, Lists}
 use Rattle.salvaging.specs.Salvage.{ResultOf, InRange, Room, Salvages, wrong_incoming, wrong-outgoing, wrong-passes, none_found, handed_out}
-use Rattle.salvage_search.specs.declared.Found.{Found}
-use Rattle.salvage_search.specs.declared.Found.TheVariants.{After, Nothing}
 use Rattle.salvage_search.specs.Search.{Finds, Searched}
 use Rattle.salvage.specs.Inner.Works.{Works, nothing, something}
 
--- what is copied between equal lengths
-pub copied : (s t u : List ℕ) (b : Bool) → length s ≡ length t → (b ≡ eqb (length s) (length t)) × (u ≡ cond b s t) → u ≡ s
-copied s t u b e c = same_lengths b (length s) (length t) u s t c e
-
 -- ---- what comes of the search
 
-module _ (r s b u t : List ℕ) (allowed : ℕ) (f : Found) (long : length r ≡ 2352) (copy : s ≡ r) (blank : b ≡ zeros 2352) (search : Searched s b allowed f u t) where
+module _ (r s b u t : List ℕ) (allowed : ℕ) (f : Option ℕ) (long : length r ≡ 2352) (copy : s ≡ r) (blank : b ≡ zeros 2352) (search : Searched s b allowed f u t) where
   found : Finds s allowed f t
   found = (search.sectors (ap length copy ∙ long) (ap length blank ∙ length-zeros 2352)).finds
 
-  found_for_lem : (g : Found) → f ≡ g → Finds r allowed g t
-  found_for_lem g e = subst (λ (x : List ℕ). Finds x allowed g t) copy (subst (λ (h : Found). Finds s allowed h t) e found)
+  found_for_lem : (g : Option ℕ) → f ≡ g → Finds r allowed g t
+  found_for_lem g e = subst (λ (x : List ℕ). Finds x allowed g t) copy (subst (λ (h : Option ℕ). Finds s allowed h t) e found)
 
-  pub worked_none : (old changed : List ℕ) → f ≡ Nothing → Works r allowed old changed (refused 5 []) old changed
-  worked_none old changed e = nothing (found_for_lem Nothing e)
+  pub worked_none : (old changed : List ℕ) → f ≡ None → Works r allowed old changed (refused 5 []) old changed
+  worked_none old changed e = nothing (found_for_lem None e)
 
   -- the Sector is copied out, and its changes are listed
-  pub worked_some : (k n : ℕ) (c : Bool) {old changed new list : List ℕ} → f ≡ After k → Room old changed
-      → (c ≡ eqb (length t) (length old)) × (new ≡ cond c t old) → Lists r t changed n list → Works r allowed old changed (done (k ∷ n ∷ [])) new list
-  worked_some k n c {old} {changed} {new} {list} e room out l =
-      subst (λ (x : List ℕ). Works r allowed old changed (done (k ∷ n ∷ [])) x list) (sym (copied t old new c (sector ∙ sym room.sector) out))
+  pub worked_some : (k n : ℕ) {old changed new list : List ℕ} → f ≡ Some k → Room old changed → new ≡ t → Lists r t changed n list
+      → Works r allowed old changed (done (k ∷ n ∷ [])) new list
+  worked_some k n {old} {changed} {new} {list} e room out l =
+      subst (λ (x : List ℕ). Works r allowed old changed (done (k ∷ n ∷ [])) x list) (sym out)
       (subst (λ (x : List ℕ). Works r allowed old changed (done (k ∷ n ∷ [])) t x) (sym is_list)
       (subst (λ (x : ℕ). Works r allowed old changed (done (k ∷ x ∷ [])) t (listing r t)) (sym is_count) (something result)))
     where
       result : ResultOf r allowed k t
-      result = found_for_lem (After k) e
+      result = found_for_lem (Some k) e
 
       sector : length t ≡ 2352
       sector = result.found.trial.long

@@ -4,17 +4,14 @@
 ghost use Rattle.salvage_passes.specs.Passes.{Passes};
 ghost use Rattle.salvage_passes.specs.Tries.{Decides, Tries};
 
-use judge::Judged;
-
 // Whether a Sector is a correct one of Mode 01.
 fn is_correct(s: &[u8]) -> bool
     ensures { Decides s.now result }
 {
-    let judged = judge::judge(s);
-    let Judged::Passed(mode, _) = judged else {
+    let Ok(passed) = judge::judge(s) else {
         return false;
     };
-    mode == 1
+    passed.mode == 1
 }
 
 // The trial: Sync set, Q parity worked out afresh, and whether that is correct. Other than 2,352 bytes stay as they are, and are not.

@@ -1,6 +1,6 @@
 -- A Sector that is copied and then added to the sequence from byte 12 on is scrambled.
 -- Assumes nothing.
-use mathlib.Core.Path.{◌≡◌, sym, ap, ap₂, ◌∙◌}
+use mathlib.Core.Path.{◌≡◌, ap, ap₂, ◌∙◌}
 use mathlib.Core.Bool.{Bool, cond}
 use mathlib.Core.List.{List, ◌++◌}
 use Prim.Native.Nat.{ℕ, ◌-◌}
@@ -21,16 +21,15 @@ use Rattle.outcome.specs.Buffer.Lengths.{same_lengths}
 to_end : (s : List ℕ) → take (length s - 12) (drop 12 s) ≡ drop 12 s
 to_end s = take_all (length s - 12) (drop 12 s) (le_of_eq (length-drop 12 s))
 
-module _ (s old copied table part : List ℕ) (r q : Bool) where
+module _ (s copied table part : List ℕ) (q : Bool) where
   abbrev lent : List ℕ
   lent = take (length copied - 12) (drop 12 copied)
 
-  pub masked : length s ≡ 2352 → length old ≡ 2352 → (r ≡ eqb (length s) (length old)) × (copied ≡ cond r s old)
+  pub masked : length s ≡ 2352 → copied ≡ s
       → table ≡ sequence → (q ≡ eqb (length lent) (length table)) × (part ≡ cond q (added lent table) lent)
       → put_mid 12 (length copied - 12) copied part ≡ scrambled s
   unfolding scrambled
-  masked hs ho c t a =
-      let whole : copied ≡ s = same_lengths r (length s) (length old) copied s old c (hs ∙ sym ho) in
+  masked hs whole t a =
       let rest : lent ≡ drop 12 s = to_end copied ∙ ap (drop 12) whole in
       let long : length lent ≡ length table = ap length rest ∙ omega (arith, length-drop 12 s, length-sequence, ap length t) in
       end_back 12 copied part (omega (arith, ap length whole))

@@ -1,5 +1,5 @@
 // Edge captures: kept as lists of runs, restored, and replayed.
-ghost use Rattle.std.specs.Prelude.{◌≡◌};
+ghost use Rattle.std.specs.Prelude.{◌≡◌, get_or};
 ghost use Rattle.outcome.specs.Say.{outcome};
 ghost use Rattle.captures.specs.Kept.{keeping, Restores};
 ghost use Rattle.replaying.specs.Replay.{replaying};
@@ -8,44 +8,49 @@ ghost use Rattle.restoring.specs.Answers as recaptured;
 ghost use Rattle.replay.specs.Answers as replayed;
 ghost use Rattle.told.specs.Told.{Tells, Told};
 
-use keeping::Listed;
-use replay::Replayed;
-use restoring::Recaptured;
-use told::{tell_one, tell_two};
+use keeping::ListError;
+use outcome::Refusal;
+use replay::{ReplayError, Replayed};
+use restoring::RestoreError;
+use told::tell;
 
 // With a list comes its used length.
-fn tell_listed(a: Listed, used: &mut [u64; 1]) -> u8
+fn tell_listed(a: Result<usize, ListError>, used: &mut [u64; 1]) -> u8
     ensures { Tells 1 (listed.say_of a) result used.new }
 {
     match a {
-        Listed::Done(n) => tell_one(0, n as u64, used),
-        Listed::WrongIncoming => tell_one(1, 0, used),
-        Listed::WrongOutgoing => tell_one(2, 0, used),
+        Ok(n) => tell(0, [n as u64], used),
+        Err(e) => tell(e.number(), [0], used),
     }
 }
 
 // With a capture comes its used length.
-fn tell_recaptured(a: Recaptured, used: &mut [u64; 1]) -> u8
+fn tell_recaptured(a: Result<usize, RestoreError>, used: &mut [u64; 1]) -> u8
     ensures { Tells 1 (recaptured.say_of a) result used.new }
 {
     match a {
-        Recaptured::Done(n) => tell_one(0, n as u64, used),
-        Recaptured::WrongIncoming => tell_one(1, 0, used),
-        Recaptured::WrongOutgoing => tell_one(2, 0, used),
-        Recaptured::WrongNumber => tell_one(19, 0, used),
+        Ok(n) => tell(0, [n as u64], used),
+        Err(e) => tell(e.number(), [0], used),
+    }
+}
+
+// The index of an illegal run, and 0 where no run is refused.
+fn illegal_run(e: ReplayError) -> u64
+    ensures { result ≡ get_or (replayed.values_with e) 0 0 }
+{
+    match e {
+        ReplayError::IllegalRun(i) => i as u64,
+        _ => 0,
     }
 }
 
 // With frames come the used length and their number, with an illegal run its index.
-fn tell_replayed(a: Replayed, values: &mut [u64; 2]) -> u8
+fn tell_replayed(a: Result<Replayed, ReplayError>, values: &mut [u64; 2]) -> u8
     ensures { Tells 2 (replayed.say_of a) result values.new }
 {
     match a {
-        Replayed::Done(used, n) => tell_two(0, used as u64, n as u64, values),
-        Replayed::WrongIncoming => tell_two(1, 0, 0, values),
-        Replayed::WrongOutgoing => tell_two(2, 0, 0, values),
-        Replayed::IllegalRun(i) => tell_two(20, i as u64, 0, values),
-        Replayed::NoHeader => tell_two(21, 0, 0, values),
+        Ok(made) => tell(0, [made.used as u64, made.frames as u64], values),
+        Err(e) => tell(e.number(), [illegal_run(e), 0], values),
     }
 }
 

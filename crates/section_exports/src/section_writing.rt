@@ -2,22 +2,10 @@
 ghost use Rattle.std.specs.Prelude.{◌≡◌, []};
 ghost use Rattle.calls.specs.Step.{step};
 ghost use Rattle.section_writer.specs.State.{fresh};
-ghost use Rattle.section_writer.specs.WriteSay.{say_of, written};
-ghost use Rattle.told.specs.Told.{number_of, Told};
+ghost use Rattle.section_writer.specs.WriteSay.{written};
+ghost use Rattle.told.specs.Told.{Told};
 
-use section_writer::{SectionWriter, SectionWritten};
-
-fn tell(a: SectionWritten) -> u8
-    ensures { result ≡ number_of (say_of a) }
-{
-    match a {
-        SectionWritten::Done => 0,
-        SectionWritten::WrongIncoming => 1,
-        SectionWritten::WrongOutgoing => 2,
-        SectionWritten::DiscFull => 7,
-        SectionWritten::ImpossibleState => 9,
-    }
-}
+use section_writer::SectionWriter;
 
 // The state in which nothing is written yet.
 #[unsafe(no_mangle)]
@@ -25,10 +13,8 @@ pub extern "C" fn road_new_section_writer(dsv: &mut i64, level: &mut i64, sectio
     ensures { (dsv.new ≡ fresh.dsv) × (level.new ≡ fresh.level) × (sections.new ≡ fresh.sections) }
 {
     let writer = SectionWriter::new();
-    let new_dsv = writer.dsv;
-    let new_level = writer.level;
-    *dsv = new_dsv;
-    *level = new_level;
+    *dsv = writer.dsv;
+    *level = writer.level;
     *sections = writer.sections;
 }
 
@@ -51,12 +37,8 @@ pub extern "C" fn road_write_section(
         sections: *sections,
     };
     let step = writer.write(frames, control, out);
-    let next = step.next;
-    let next_dsv = next.dsv;
-    let next_level = next.level;
-    *dsv = next_dsv;
-    *level = next_level;
-    *sections = next.sections;
-    let answer = step.answer;
-    tell(answer)
+    *dsv = step.next.dsv;
+    *level = step.next.level;
+    *sections = step.next.sections;
+    told::number(step.answer)
 }

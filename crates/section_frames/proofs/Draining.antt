@@ -24,11 +24,17 @@ pub record Draining (out₀ : List ℕ) (held₀ count₀ at₀ : ℕ) (out : Li
   pub room : 8 * at₀ + count₀ ≤ 8 * length out₀
   pub bits : unpack (take at out) ++ bits_of count held ≡ unpack (take at₀ out₀) ++ bits_of count₀ held₀
 
-module _ (out : List ℕ) (pen : Pen) (v n scale : ℕ) (r : Room out pen v n scale) where
+-- two to the n, as the code makes it
+pub scale_is : {out : List ℕ} {pen : Pen} {v n : ℕ} → Room out pen v n → 1 * 2 ^ n % 4294967296 ≡ 2 ^ n
+scale_is {out} {pen} {v} {n} r =
+    let p : 2 ^ n ≤ 2 ^ 24 = pow_mono {i = n} {j = 24} r.short in
+    ap (λ (x : ℕ). x % 4294967296) (one-mul (2 ^ n)) ∙ mod-eq_of_lt (omega arith)
+
+module _ (out : List ℕ) (pen : Pen) (v n scale : ℕ) (r : Room out pen v n) (e : scale ≡ 2 ^ n) where
   -- the held bits and the new ones
   pub gathered_fits : pen.held * scale + v < 2 ^ (pen.count + n)
   gathered_fits =
-      rw (r.scale_is, pow-add 2 pen.count n) (digits_lt r.held.fits r.small)
+      rw (e, pow-add 2 pen.count n) (digits_lt r.held.fits r.small)
 
   pub gathered_small : pen.held * scale + v < 2147483648
   gathered_small = omega (arith, gathered_fits, pow_mono {i = pen.count + n} {j = 31} (omega (arith, r.held.few, r.short)))
@@ -48,7 +54,7 @@ module _ (out : List ℕ) (pen : Pen) (v n scale : ℕ) (r : Room out pen v n sc
       → Inked out pen v n out' (record { at = at; held = held; count = count })
   drain_end out' held count at d h =
       let joined : bits_of (pen.count + n) (pen.held * scale + v) ≡ bits_of pen.count pen.held ++ bits_of n v
-      = ap (λ (k : ℕ). bits_of (pen.count + n) (pen.held * k + v)) r.scale_is ∙ bits-join pen.count n pen.held v r.small in
+      = ap (λ (k : ℕ). bits_of (pen.count + n) (pen.held * k + v)) e ∙ bits-join pen.count n pen.held v r.small in
       record {
         held = record { few = h; fits = d.fits };
         long = d.long;

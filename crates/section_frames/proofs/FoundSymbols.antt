@@ -17,13 +17,13 @@ use Rattle.section_frames.specs.Inner.FrameSteps.{SymbolFound, SymbolsFound}
 use Rattle.section_frames.specs.Section.{word_at, frame_words}
 
 module _ (frames control : List ℕ) (f i : ℕ) where
-  pub found-sync0 : i ≡ 0 → f ≡ 0 → SymbolFound frames control f i 256
+  pub found_sync0 : i ≡ 0 → f ≡ 0 → SymbolFound frames control f i 256
   unfolding word_at
-  found-sync0 p q = record { low = omega arith; byte = λ n. absurd (n p); word_is = simp (eq-eqb i 0 p, eq-eqb f 0 q) symbol_256 }
+  found_sync0 p q = record { low = omega arith; byte = λ n. absurd (n p); word_is = simp (eq-eqb i 0 p, eq-eqb f 0 q) symbol_256 }
 
-  pub found-sync1 : i ≡ 0 → (f ≡ 0 → ⊥) → f ≡ 1 → SymbolFound frames control f i 257
+  pub found_sync1 : i ≡ 0 → (f ≡ 0 → ⊥) → f ≡ 1 → SymbolFound frames control f i 257
   unfolding word_at
-  found-sync1 p n q = record { low = omega arith; byte = λ m. absurd (m p); word_is = simp (eq-eqb i 0 p, ne_eqb f 0 n, eq-eqb f 1 q) symbol_257 }
+  found_sync1 p n q = record { low = omega arith; byte = λ m. absurd (m p); word_is = simp (eq-eqb i 0 p, ne_eqb f 0 n, eq-eqb f 1 q) symbol_257 }
 
   pub found_control : i ≡ 0 → (f ≡ 0 → ⊥) → (f ≡ 1 → ⊥) → get_or control (f - 2) 0 < 256 → SymbolFound frames control f i (get_or control (f - 2) 0)
   unfolding word_at

@@ -7,11 +7,11 @@ ghost use Rattle.section_frames.specs.Inner.BufferBits.{WordsDue, WordsInked};
 ghost use Rattle.section_frames.specs.Inner.FrameSteps.{FrameDue, FrameDone};
 
 use crate::pen::Pen;
-use crate::{pen, symbols};
+use crate::symbols;
 use traces::Tally;
 
 // Where a writer stands between two frames.
-#[derive(Clone, Copy)]
+#[derive(Clone, Copy, Debug, PartialEq, Eq)]
 pub struct Writing {
     pub pen: Pen,
     pub tally: Tally,
@@ -23,10 +23,8 @@ fn write_words(out: &mut [u8], from: Pen, words: [u32; 33]) -> Pen
     ensures { WordsInked out.old from words out.new result }
 {
     let mut p = from;
-    let mut i: usize = 0;
-    while i < 33 {
-        p = pen::put(out, p, words[i], 17, 131072);
-        i += 1;
+    for word in words {
+        p = p.put(out, word, 17);
     }
     p
 }
@@ -36,18 +34,14 @@ fn write_frame(out: &mut [u8], w: Writing, frames: &[u8], control: &[u8], f: usi
     requires { FrameDue out.old w frames.now control.now f }
     ensures { FrameDone out.old w frames.now control.now f out.new result }
 {
-    let before = w.pen;
-    let tally = w.tally;
     let symbols = symbols::symbols_of(frames, control, f);
-    let chosen = choosing::choose_frame(tally, symbols);
-    let words = chosen.words;
-    let after = chosen.after;
-    let headed = pen::put(out, before, 0b100000000001000000000010, 24, 16777216);
-    let worded = write_words(out, headed, words);
-    let tailed = pen::put(out, worded, chosen.tail, 3, 8);
+    let chosen = choosing::choose_frame(w.tally, symbols);
+    let headed = w.pen.put(out, 0b100000000001000000000010, 24);
+    let worded = write_words(out, headed, chosen.words);
+    let tailed = worded.put(out, chosen.tail, 3);
     Writing {
         pen: tailed,
-        tally: after,
+        tally: chosen.after,
     }
 }
 
@@ -56,20 +50,16 @@ pub(crate) fn write_all(out: &mut [u8], t: Tally, frames: &[u8], control: &[u8])
     requires { (length out.old ≡ 7203) × (length frames.now ≡ 3136) × (length control.now ≡ 96) × Within farthest t }
     ensures { FramesDone t frames.now control.now out.new result }
 {
-    let start = Pen {
-        at: 0,
-        held: 0,
-        count: 0,
-    };
     let mut s = Writing {
-        pen: start,
+        pen: Pen {
+            at: 0,
+            held: 0,
+            count: 0,
+        },
         tally: t,
     };
-    let mut f: usize = 0;
-    while f < 98 {
+    for f in 0..98 {
         s = write_frame(out, s, frames, control, f);
-        f += 1;
     }
-    let next = s.tally;
-    next
+    s.tally
 }

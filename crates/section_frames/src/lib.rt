@@ -14,33 +14,20 @@ mod symbols;
 const FARTHEST: u64 = 25930800000;
 
 // The level is one, and no count is greater than one that a Section may begin with.
+#[tactic(auto, unfolding(crate::specs::Frames::near))]
 fn is_near(t: Tally) -> bool
     ensures { result ≡ near t }
 {
-    if t.level <= 1 {
-        if t.plus <= FARTHEST {
-            return t.minus <= FARTHEST;
-        }
-        return false;
-    }
-    false
+    t.level <= 1 && t.plus <= FARTHEST && t.minus <= FARTHEST
 }
 
 // The Channel bits of a Section. Where a length is wrong or the tally is none that a Section begins with, nothing is written, and the tally stays.
+#[tactic(auto, using(crate::specs::Frames::Due::nothing, crate::specs::Frames::Due::all_laid, crate::specs::Frames::Due::near_within), unfolding(crate::specs::Frames::due))]
 pub fn write_frames(out: &mut [u8], t: Tally, frames: &[u8], control: &[u8]) -> Tally
     ensures { FramesLaid t frames.now control.now out.old out.new result }
 {
-    if out.len() != 7203 {
+    if out.len() != 7203 || frames.len() != 3136 || control.len() != 96 || !is_near(t) {
         return t;
     }
-    if frames.len() != 3136 {
-        return t;
-    }
-    if control.len() != 96 {
-        return t;
-    }
-    if is_near(t) {
-        return frame::write_all(out, t, frames, control);
-    }
-    t
+    frame::write_all(out, t, frames, control)
 }

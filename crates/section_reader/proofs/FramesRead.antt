@@ -66,10 +66,10 @@ module _ {channel b m : List ℕ} {f : ℕ} {bytes marks : List ℕ} (g : Frames
 
   module _ (h : f < 98) where
     -- both buffers with what frame f gives in its places
-    pub frames_more : (x y : List ℕ) (n : ℕ) → FrameTaken channel f x y n → FramesRead channel b m n (back f bytes x) (back f marks y)
-    frames_more x y n t =
-        rw t.next_is (record {
+    pub frames_more : (x y : List ℕ) → FrameTaken channel f x y → FramesRead channel b m (f + 1) (back f bytes x) (back f marks y)
+    frames_more x y t =
+        record {
           upto = omega arith;
           of_bytes = part_more b (bytes_read (unpack channel)) bytes x f g.of_bytes (omega (arith, long_bytes (unpack channel))) (t.bytes_are ∙ bytes_of_frame (unpack channel) f h);
           of_marks = part_more m (marks_read (unpack channel)) marks y f g.of_marks (omega (arith, long_marks (unpack channel))) (t.marks_are ∙ marks_of_frame (unpack channel) f h);
-        })
+        }

@@ -1,6 +1,6 @@
 -- What private functions ask and answer.
 -- Assumes nothing.
-use Rattle.std.specs.Prelude.{◌≡◌, List, ℕ, ◌+◌, ◌<◌, length}
+use Rattle.std.specs.Prelude.{◌≡◌, List, ℕ, ◌<◌, length}
 use Rattle.outcome.specs.Table.{tabulated}
 use Rattle.bits.specs.Bits.{unpack}
 use Rattle.words.specs.LookUp.{Guide}
@@ -16,8 +16,7 @@ pub record FrameDue (channel table guide : List ℕ) (f : ℕ) (bytes marks : Li
   pub room_bytes : length bytes ≡ 33
   pub room_marks : length marks ≡ 33
 
--- what the frame gives stands there, and which frame is next
-pub record FrameTaken (channel : List ℕ) (f : ℕ) (bytes marks : List ℕ) (next : ℕ) : Type 0 where
-  pub next_is : next ≡ f + 1
+-- what the frame gives stands there
+pub record FrameTaken (channel : List ℕ) (f : ℕ) (bytes marks : List ℕ) : Type 0 where
   pub bytes_are : bytes ≡ tabulated (frame_byte (unpack channel) f) 0 33
   pub marks_are : marks ≡ tabulated (frame_mark (unpack channel) f) 0 33

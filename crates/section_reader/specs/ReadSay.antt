@@ -1,20 +1,22 @@
 -- What reading a Section answers, and what it leaves in both buffers (document 01, "Numbers that come back": 1, 2; 8 is withdrawn by document 02, §6).
 -- Assumes nothing.
-use Rattle.std.specs.Prelude.{◌&&◌, List, [], eqb, ℕ, length}
-use Rattle.outcome.specs.Say.{Say, done, refused, demand, leaves}
+use Rattle.std.specs.Prelude.{◌&&◌, ⊤, List, [], Result, eqb, ℕ, length}
+use Rattle.outcome.specs.Say.{Say, done, said_by, demand, leaves}
 use Rattle.bits.specs.Bits.{unpack}
-use Rattle.section_reader.specs.declared.SectionRead.{SectionRead}
-use Rattle.section_reader.specs.declared.SectionRead.TheVariants.{Done, WrongIncoming, WrongOutgoing}
+use Rattle.section_reader.specs.declared.ReadSectionError.{ReadSectionError}
+use Rattle.section_reader.specs.declared.ReadSectionError.TheVariants.{WrongIncoming, WrongOutgoing}
 use Rattle.section_reader.specs.Reading.{bytes_read, marks_read}
 pub mod One
 pub mod NeverEight
 pub mod AsBefore
 
+abbrev pub refusal_of : ReadSectionError → ℕ
+refusal_of WrongIncoming = 1
+refusal_of WrongOutgoing = 2
+
 -- document 01's number and values for each answer
-abbrev pub say_of : SectionRead → Say
-say_of Done = done []
-say_of WrongIncoming = refused 1 []
-say_of WrongOutgoing = refused 2 []
+abbrev pub say_of : Result ⊤ ReadSectionError → Say
+say_of = said_by (λ w. []) refusal_of
 
 -- all that reading does: what it says, and what both buffers then hold
 pub record ReadOut : Type 0 where

@@ -4,20 +4,30 @@
 ghost use Rattle.std.specs.Prelude.{◌≡◌, length};
 ghost use Rattle.bits.specs.Bits.{unpack};
 ghost use Rattle.section_reader.specs.Reading.{bytes_read, marks_read};
-ghost use Rattle.section_reader.specs.ReadSay.{say_of, read_out, section_read};
+ghost use Rattle.section_reader.specs.ReadSay.{refusal_of, say_of, read_out, section_read};
 ghost use Rattle.section_reader.specs.Inner.{FrameDue, FrameTaken};
 
-use channel_frame::Frame;
+use outcome::Refusal;
 
-// What reading a Section answers.
-#[derive(Clone, Copy)]
-pub enum SectionRead {
-    Done,
+// Why a Section is not read.
+#[derive(Clone, Copy, Debug, PartialEq, Eq)]
+pub enum ReadSectionError {
     WrongIncoming,
     WrongOutgoing,
 }
 
-// Frame f into its places: as it is read, or as lost where it has no Sync Header. A lost one costs no other: either way frame f + 1 is next.
+impl Refusal for ReadSectionError {
+    ghost refusal_of = { refusal_of };
+
+    fn number(self) -> u8 {
+        match self {
+            ReadSectionError::WrongIncoming => 1,
+            ReadSectionError::WrongOutgoing => 2,
+        }
+    }
+}
+
+// Frame f into its places: as it is read, or as lost where it has no Sync Header.
 fn take_frame(
     channel: &[u8],
     table: &[u16; 256],
@@ -25,28 +35,26 @@ fn take_frame(
     f: usize,
     bytes: &mut [u8],
     marks: &mut [u8],
-) -> usize
+)
     requires { FrameDue channel.now table.now guide.now f bytes.old marks.old }
-    ensures { FrameTaken channel.now f bytes.new marks.new result }
+    ensures { FrameTaken channel.now f bytes.new marks.new }
 {
-    let Frame::Read = channel_frame::read_one(channel, table, guide, f, bytes, marks) else {
+    let Some(()) = channel_frame::read_one(channel, table, guide, f, bytes, marks) else {
         word_marks::lose_frame(bytes, marks);
-        return f + 1;
+        return;
     };
-    f + 1
 }
 
-// Buffers of the right lengths: frame by frame.
+// Buffers of the right lengths: frame by frame, and a lost one costs no other.
 fn read_frames(channel: &[u8], bytes: &mut [u8], marks: &mut [u8])
     requires { (length channel.now ≡ 7203) × (length bytes.old ≡ 3234) × (length marks.old ≡ 3234) }
     ensures { (bytes.new ≡ bytes_read (unpack channel.now)) × (marks.new ≡ marks_read (unpack channel.now)) }
 {
     let table = words::all_words();
     let guide = words::guide();
-    let mut f: usize = 0;
-    while f < 98 {
+    for f in 0..98 {
         let at = 33 * f;
-        f = take_frame(
+        take_frame(
             channel,
             &table,
             &guide,
@@ -58,22 +66,26 @@ fn read_frames(channel: &[u8], bytes: &mut [u8], marks: &mut [u8])
 }
 
 // 7,203 bytes of Channel bits become 3,234 bytes and 3,234 marks, frame by frame, the Control byte first.
-pub fn read_section(channel: &[u8], bytes: &mut [u8], marks: &mut [u8]) -> SectionRead
+pub fn read_section(
+    channel: &[u8],
+    bytes: &mut [u8],
+    marks: &mut [u8],
+) -> Result<(), ReadSectionError>
     ensures { read_out (say_of result) bytes.new marks.new ≡ section_read channel.now bytes.old marks.old }
 {
     if channel.len() != 7203 {
         outcome::wipe(bytes, 3234);
         outcome::wipe(marks, 3234);
-        return SectionRead::WrongIncoming;
+        return Err(ReadSectionError::WrongIncoming);
     }
     if bytes.len() != 3234 {
         outcome::wipe(marks, 3234);
-        return SectionRead::WrongOutgoing;
+        return Err(ReadSectionError::WrongOutgoing);
     }
     if marks.len() != 3234 {
         outcome::wipe(bytes, 3234);
-        return SectionRead::WrongOutgoing;
+        return Err(ReadSectionError::WrongOutgoing);
     }
     read_frames(channel, bytes, marks);
-    SectionRead::Done
+    Ok(())
 }

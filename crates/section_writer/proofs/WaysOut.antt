@@ -1,6 +1,8 @@
 -- Each way out of writing a Section does what document 01 says.
 -- Assumes nothing.
+use Rattle.std.specs.Prelude.{⊤, Result}
 use mathlib.Core.Path.{◌≡◌, sym, ap, ap₂, ◌∙◌, subst}
+use mathlib.Core.Logic.{◌⊎◌, inl, inr}
 use mathlib.Core.Bool.{Bool, true, false}
 use mathlib.Core.List.{List, []}
 use Prim.Native.Nat.{ℕ}
@@ -28,7 +30,7 @@ use Rattle.section_frames.specs.Frames.Due.{within-near, all_due}
 use Rattle.section_frames.specs.Section.{section_after}
 use Rattle.section_writer.specs.declared.SectionStep.{SectionStep}
 use Rattle.section_writer.specs.declared.SectionWriter.{SectionWriter}
-use Rattle.section_writer.specs.declared.SectionWritten.{SectionWritten}
+use Rattle.section_writer.specs.declared.WriteSectionError.{WriteSectionError}
 use Rattle.section_writer.specs.State.{right, advanced}
 use Rattle.section_writer.specs.WriteSay.{say_of, section, after_section, write_say, written}
 
@@ -37,13 +39,18 @@ module _ (s : SectionWriter) (frames control out : List ℕ) where
   unfolding written
   refusal n e = λ i. step (sym e i) (handed_back (sym e i) (after_section s (section s frames control)) s) (leaves (sym e i) 7203 (pack 7203 (section s frames control).bits) out)
 
-  pub wrong_frames : (length frames ≡ 3136 → ⊥) → (o : List ℕ) → o ≡ cleared 7203 out → step (refused 1 []) s o ≡ written s frames control out
+  wrong_frames : (length frames ≡ 3136 → ⊥) → (o : List ℕ) → o ≡ cleared 7203 out → step (refused 1 []) s o ≡ written s frames control out
   unfolding write_say
   wrong_frames n o e = ap (step (refused 1 []) s) e ∙ refusal 1 (simp (ne_eqb (length frames) 3136 n))
 
-  pub wrong_control : length frames ≡ 3136 → (length control ≡ 96 → ⊥) → (o : List ℕ) → o ≡ cleared 7203 out → step (refused 1 []) s o ≡ written s frames control out
+  wrong_control : length frames ≡ 3136 → (length control ≡ 96 → ⊥) → (o : List ℕ) → o ≡ cleared 7203 out → step (refused 1 []) s o ≡ written s frames control out
   unfolding write_say
   wrong_control f n o e = ap (step (refused 1 []) s) e ∙ refusal 1 (simp (eq-eqb (length frames) 3136 f, ne_eqb (length control) 96 n))
+
+  pub wrong_incoming : (length frames ≡ 3136 → ⊥) ⊎ ((length frames ≡ 3136) × (length control ≡ 96 → ⊥)) → (o : List ℕ) → o ≡ cleared 7203 out
+      → step (refused 1 []) s o ≡ written s frames control out
+  wrong_incoming (inl n) = wrong_frames n
+  wrong_incoming (inr p) = wrong_control p.0 p.1
 
   module _ (f : length frames ≡ 3136) (k : length control ≡ 96) where
     pub wrong_out : (length out ≡ 7203 → ⊥) → step (refused 2 []) s out ≡ written s frames control out
@@ -85,9 +92,9 @@ module _ (s : SectionWriter) (frames control out : List ℕ) where
 -- ---- what the calls on a way out give
 
 -- a refusal hands back the state
-pub by_refusal : (r : SectionStep) (s : SectionWriter) (answer : SectionWritten) (o : List ℕ) (w : Step SectionWriter) → (r.next ≡ s) × (r.answer ≡ answer) → step (say_of answer) s o ≡ w
+pub by_refusal : (r : SectionStep) (s : SectionWriter) (answer : Result ⊤ WriteSectionError) (o : List ℕ) (w : Step SectionWriter) → (r.next ≡ s) × (r.answer ≡ answer) → step (say_of answer) s o ≡ w
     → step (say_of r.answer) r.next o ≡ w
-by_refusal r s answer o w e p = ap₂ (λ (a : SectionWritten) (x : SectionWriter). step (say_of a) x o) e.1 e.0 ∙ p
+by_refusal r s answer o w e p = ap₂ (λ (a : Result ⊤ WriteSectionError) (x : SectionWriter). step (say_of a) x o) e.1 e.0 ∙ p
 
 -- the numbers that were asked about are those of the state, read from it
 module _ (s : SectionWriter) (fits-dsv : SFits w64 s.dsv) (fits-level : SFits w64 s.level) where

@@ -1,25 +1,27 @@
 -- What writing a Section answers, the state that it hands back, and the bytes that it leaves (document 01, "Numbers that come back": 1, 2, 9, 7).
 -- Assumes nothing.
-use Rattle.std.specs.Prelude.{◌&&◌, List, [], ℕ, eqb, ltb, length}
-use Rattle.outcome.specs.Say.{Say, done, refused, demand}
+use Rattle.std.specs.Prelude.{◌&&◌, ⊤, List, [], ℕ, Result, eqb, ltb, length}
+use Rattle.outcome.specs.Say.{Say, done, said_by, demand}
 use Rattle.calls.specs.Step.{Step, step_of}
 use Rattle.bits.specs.Bits.{pack}
 use Rattle.merging.specs.Chosen.{SoFar}
 use Rattle.section_state.specs.Carried.{most_sections, above, below, level_now}
 use Rattle.section_frames.specs.Section.{section_after}
 use Rattle.section_writer.specs.declared.SectionWriter.{SectionWriter}
-use Rattle.section_writer.specs.declared.SectionWritten.{SectionWritten}
-use Rattle.section_writer.specs.declared.SectionWritten.TheVariants.{Done, WrongIncoming, WrongOutgoing, ImpossibleState, DiscFull}
+use Rattle.section_writer.specs.declared.WriteSectionError.{WriteSectionError}
+use Rattle.section_writer.specs.declared.WriteSectionError.TheVariants.{WrongIncoming, WrongOutgoing, ImpossibleState, DiscFull}
 use Rattle.section_writer.specs.State.{right, advanced}
 pub mod One
 
+abbrev pub refusal_of : WriteSectionError → ℕ
+refusal_of WrongIncoming = 1
+refusal_of WrongOutgoing = 2
+refusal_of ImpossibleState = 9
+refusal_of DiscFull = 7
+
 -- document 01's number for each answer
-abbrev pub say_of : SectionWritten → Say
-say_of Done = done []
-say_of WrongIncoming = refused 1 []
-say_of WrongOutgoing = refused 2 []
-say_of ImpossibleState = refused 9 []
-say_of DiscFull = refused 7 []
+abbrev pub say_of : Result ⊤ WriteSectionError → Say
+say_of = said_by (λ w. []) refusal_of
 
 -- the Section that a writer makes of frames and Control bytes: its bits, and level and DSV after them
 unfoldable pub section : SectionWriter → List ℕ → List ℕ → SoFar

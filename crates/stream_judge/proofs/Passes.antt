@@ -1,15 +1,20 @@
 -- The passes frame by frame and bit by bit, and each way out of a call.
 -- Assumes nothing.
 use mathlib.Core.Path.{◌≡◌, refl, sym, ap, ◌∙◌}
-use mathlib.Core.Bool.{Bool, true, cond}
+use mathlib.Core.Bool.{Bool, true, false, ◌&&◌}
 use mathlib.Core.List.{List, [], ◌∷◌}
+use Rattle.std.specs.Prelude.{Option, None, Some}
 use Prim.Native.Nat.{ℕ, ◌+◌, ◌*◌, ◌/◌, ◌%◌, ◌^◌, ◌≤◌, ◌<◌}
 use native.Mathlib.Omega.{arith}
 use borrow.Author.Count.{below_more}
-use borrow.Author.Tests.{ne_eqb, eq-eqb, le-leb, lt-leb}
+use borrow.Author.Tests.{eqb-true, leb-true}
+use lib.Dec.{eqb, leb}
 use lib.ListN.{length, get_or}
 use lib.Pow.{pow-lt}
-use Rattle.outcome.specs.Say.{done, refused}
+use Rattle.outcome.specs.Say.{Say, done, refused, demand}
+use Rattle.offence_tests.specs.declared.Offence.{Offence}
+use Rattle.offence_tests.specs.declared.Offence.TheVariants.{Run, Header, Word}
+use Rattle.offence_tests.specs.Known.{number_of}
 use Rattle.fields.specs.Fields.{field_at}
 use Rattle.channel_frame.specs.ChannelFrame.{word_read}
 use Rattle.fields.specs.Fields.Parts.{field_lt}
@@ -18,11 +23,11 @@ use Rattle.stream_rules.specs.Offences.{judged, right_word}
 use Rattle.stream_rules.specs.Offences.Stream.{binary_judged, length-judged}
 use Rattle.stream_rules.specs.Judging.{verdict, right_length, judging}
 use Rattle.stream_windows.specs.Window.{led, window}
-use Rattle.stream_windows.specs.Window.Found.{Finding, none_of_three}
+use Rattle.stream_windows.specs.Window.Found.{none_of_three}
 use Rattle.stream_windows.specs.Window.Lead.{binary_led, length-led}
 use Rattle.stream_windows.specs.Window.Onward.{field_grows, whole-window}
 use Rattle.stream_windows.specs.Calm.Until.{ClearBelow}
-use Rattle.stream_judge.specs.Inner.{WordsRight, WordsClear, NoneBefore}
+use Rattle.stream_judge.specs.Inner.{WordsRight, WordsClear, NoneBefore, Finds}
 
 -- ---- a window bit by bit
 
@@ -90,30 +95,42 @@ none_before xs a b p c w h k q l =
 
 -- ---- a call
 
+-- what is said of a first offence, or of none
+abbrev pub found_say : Option (Offence × ℕ) → Say
+found_say None = done []
+found_say (Some f) = refused (number_of (Some f.0)) (f.1 ∷ [])
+
+-- an offence has a number
+pub some_number : (o : Offence) → number_of (Some o) ≡ 0 → ⊥
+some_number Run e = omega (arith, e)
+some_number Header e = omega (arith, e)
+some_number Word e = omega (arith, e)
+
+both : (a b : Bool) → (a && b) ≡ true → (a ≡ true) × (b ≡ true)
+both true b e = (refl, e)
+both false b e = absurd (let z : ◌≡◌ {A = ℕ} 0 1 = cc in omega arith)
+
+-- a right length is that of one to nine Sections
+pub right_is : (l : ℕ) → right_length l ≡ true → (l ≡ 7203 * (l / 7203)) × (1 ≤ l / 7203) × (l / 7203 ≤ 9)
+unfolding right_length
+right_is l e =
+    let p = both (eqb (l % 7203) 0) (leb 1 (l / 7203) && leb (l / 7203) 9) e in
+    let q = both (leb 1 (l / 7203)) (leb (l / 7203) 9) p.1 in
+    let z : l % 7203 ≡ 0 = eqb-true (l % 7203) 0 p.0 in
+    (omega arith, leb-true 1 (l / 7203) q.0, leb-true (l / 7203) 9 q.1)
+
 module _ (xs : List ℕ) where
-  pub says_odd : (length xs % 7203 ≡ 0 → ⊥) → refused 1 [] ≡ judging xs
-  unfolding judging right_length
-  says_odd h = sym (rw (ne_eqb (length xs % 7203) 0 h))
+  pub says_wrong : right_length (length xs) ≡ false → refused 1 [] ≡ judging xs
+  unfolding judging
+  says_wrong h = sym (ap (λ (t : Bool). demand t 1 (verdict (judged xs))) h)
 
-  pub says_none : length xs % 7203 ≡ 0 → length xs / 7203 < 1 → refused 1 [] ≡ judging xs
-  unfolding judging right_length
-  says_none h j = sym (rw (eq-eqb (length xs % 7203) 0 h, lt-leb 1 (length xs / 7203) j))
-
-  pub says_many : length xs % 7203 ≡ 0 → 1 ≤ length xs / 7203 → 9 < length xs / 7203 → refused 1 [] ≡ judging xs
-  unfolding judging right_length
-  says_many h j k = sym (rw (eq-eqb (length xs % 7203) 0 h, le-leb 1 (length xs / 7203) j, lt-leb (length xs / 7203) 9 k))
-
-  module _ (h : length xs % 7203 ≡ 0) (j : 1 ≤ length xs / 7203) (k : length xs / 7203 ≤ 9) (m p : ℕ) (f : Finding xs m p) where
+  module _ (h : right_length (length xs) ≡ true) where
     judging_is : judging xs ≡ verdict (judged xs)
-    unfolding judging right_length
-    judging_is = rw (eq-eqb (length xs % 7203) 0 h, le-leb 1 (length xs / 7203) j, le-leb (length xs / 7203) 9 k)
+    unfolding judging
+    judging_is = ap (λ (t : Bool). demand t 1 (verdict (judged xs))) h
 
-    pub says_done : m ≡ 0 → done [] ≡ judging xs
-    says_done z = sym (ap (λ (t : Bool). cond t (done []) (refused m (p ∷ []))) (eq-eqb m 0 z)) ∙ f.says ∙ sym judging_is
-
-    pub says-offence : (n : ℕ) → m ≡ n → (m ≡ 0 → ⊥) → refused n (p ∷ []) ≡ judging xs
-    says-offence n e z =
-        ap (λ (q : ℕ). refused q (p ∷ [])) (sym e) ∙ sym (ap (λ (t : Bool). cond t (done []) (refused m (p ∷ []))) (ne_eqb m 0 z)) ∙ f.says ∙ sym judging_is
-
-    pub says_word : (m ≡ 0 → ⊥) → (m ≡ 25 → ⊥) → (m ≡ 26 → ⊥) → refused 27 (p ∷ []) ≡ judging xs
-    says_word z a b = says-offence 27 (f.last_kind z a b) z
+    pub says_found : (r : Option (Offence × ℕ)) → Finds xs r → found_say r ≡ judging xs
+    says_found None f = f.1.says ∙ sym judging_is
+    says_found (Some (Run, p)) f = f.says ∙ sym judging_is
+    says_found (Some (Header, p)) f = f.says ∙ sym judging_is
+    says_found (Some (Word, p)) f = f.says ∙ sym judging_is

@@ -1,13 +1,11 @@
 -- Each way out of the tests of a word, and what the tests of a window show together.
 -- Assumes nothing.
+use Rattle.std.specs.Prelude.{Option, Some, None, is_some}
 use mathlib.Core.Path.{◌≡◌, refl, sym, ap, ◌∙◌}
 use mathlib.Core.Bool.{Bool, true, false, cond}
 use mathlib.Core.List.{List}
 use Prim.Native.Nat.{ℕ}
-use native.Mathlib.Omega.{arith}
 use lib.Dec.{ltb}
-use Rattle.words.specs.declared.Symbol.{Symbol}
-use Rattle.words.specs.declared.Symbol.TheVariants.{Byte, Unknown}
 use Rattle.words.specs.LookUp.{Guide, looked_up}
 use Rattle.words.specs.LookUp.Finds.{looked_up_lem}
 use Rattle.words.specs.Words.{words, place_of, byte_of}
@@ -17,28 +15,17 @@ use Rattle.stream_windows.specs.Window.{run_in, head_wrong, word_wrong, offence_
 
 -- ---- a word
 
-differ : {A : Type 0} (k : ℕ) → Byte k ≡ Unknown → A
-differ k e = let z : ◌≡◌ {A = ℕ} 0 1 = cc in absurd (omega arith)
-
-module _ (g table : List ℕ) (w : ℕ) (guide : Guide g) (is : table ≡ words) (r : Symbol) (e : r ≡ looked_up table g w) where
+module _ (g table : List ℕ) (w : ℕ) (guide : Guide g) (is : table ≡ words) (r : Option ℕ) (e : r ≡ looked_up table g w) where
   byte_is : byte_of w ≡ r
   byte_is = sym (looked_up_lem g guide w) ∙ sym (ap (λ (t : List ℕ). looked_up t g w) is) ∙ sym e
 
-  pub listed-none : r ≡ Unknown → false ≡ listed w
+  pub listed_is : is_some r ≡ listed w
   unfolding listed byte_of
-  listed-none u = go (ltb (place_of w words) 256) (byte_is ∙ u)
+  listed_is = ap is_some (sym byte_is) ∙ go (ltb (place_of w words) 256)
     where
-      go : (t : Bool) → cond t (Byte (place_of w words)) Unknown ≡ Unknown → false ≡ t
-      go true q = differ (place_of w words) q
-      go false q = refl
-
-  pub listed-some : (b : ℕ) → r ≡ Byte b → true ≡ listed w
-  unfolding listed byte_of
-  listed-some b u = go (ltb (place_of w words) 256) (byte_is ∙ u)
-    where
-      go : (t : Bool) → cond t (Byte (place_of w words)) Unknown ≡ Byte b → true ≡ t
-      go true q = refl
-      go false q = differ b (sym q)
+      go : (t : Bool) → is_some (cond t (Some (place_of w words)) None) ≡ t
+      go true = refl
+      go false = refl
 
 -- ---- a window
 

@@ -11,8 +11,7 @@ pub(crate) fn calm_until(channel: &[u8], n: usize) -> usize
     ensures { (result ≤ 57624 * n) × ClearBelow (judged channel.now) result }
 {
     let mut held = taken::triple(channel, 0);
-    let mut t: usize = 0;
-    while t < 2401 * n {
+    for t in 0..2401 * n {
         let next = taken::triple(channel, t + 1);
         let w = held * 16777216 + next;
         let calm = stream_windows::is_triple_calm(w, t % 49);
@@ -20,7 +19,6 @@ pub(crate) fn calm_until(channel: &[u8], n: usize) -> usize
             return 24 * t;
         }
         held = w % 1099511627776;
-        t += 1;
     }
-    24 * t
+    57624 * n
 }

@@ -3,17 +3,11 @@ ghost use Rattle.std.specs.Prelude.{◌≡◌, ◌*◌, ◌≤◌, length};
 ghost use Rattle.words.specs.Words.{words};
 ghost use Rattle.words.specs.LookUp.{Guide};
 ghost use Rattle.stream_windows.specs.Window.{word_wrong, offence_in};
-ghost use Rattle.stream_windows.specs.Window.Found.{Finding};
-ghost use Rattle.stream_judge.specs.Inner.{NoneBefore};
+ghost use Rattle.offence_tests.specs.Known.{number_of};
+ghost use Rattle.stream_judge.specs.Inner.{NoneBefore, Finds};
 
 use crate::{taken, words_listed};
-
-// The number of the offence at a bit, 0 for none.
-#[derive(Clone, Copy)]
-pub struct Offence {
-    pub number: u64,
-    pub place: usize,
-}
+use offence_tests::Offence;
 
 // A word or SYNC offends.
 fn word_wrong(table: &[u16; 256], guide: &[u8; 1351], p: usize, v: u64) -> bool
@@ -26,9 +20,9 @@ fn word_wrong(table: &[u16; 256], guide: &[u8; 1351], p: usize, v: u64) -> bool
 }
 
 // The offence that a window shows.
-fn offence_in(table: &[u16; 256], guide: &[u8; 1351], p: usize, v: u64) -> u64
+fn offence_in(table: &[u16; 256], guide: &[u8; 1351], p: usize, v: u64) -> Option<Offence>
     requires { (table.now ≡ words) × Guide guide.now }
-    ensures { result ≡ offence_in p v }
+    ensures { number_of result ≡ offence_in p v }
 {
     let run = stream_windows::run_in(v);
     let head = stream_windows::head_wrong(v, p);
@@ -37,30 +31,23 @@ fn offence_in(table: &[u16; 256], guide: &[u8; 1351], p: usize, v: u64) -> u64
 }
 
 // The first offence, where there is none before bit `start`.
-pub(crate) fn search_from(channel: &[u8], n: usize, start: usize) -> Offence
+pub(crate) fn search_from(channel: &[u8], n: usize, start: usize) -> Option<(Offence, usize)>
     requires { (length channel.now ≡ 7203 * n) × (n ≤ 9) × (start ≤ 57624 * n) × NoneBefore channel.now start }
-    ensures { Finding channel.now result.number result.place }
+    ensures { Finds channel.now result }
 {
     let table = words::all_words();
     let guide = words::guide();
     let total = 8 * channel.len();
     let mut v = taken::window_at(channel, start);
-    let mut p: usize = start;
-    while p < total {
-        let k = offence_in(&table, &guide, p, v);
-        if k != 0 {
-            return Offence {
-                number: k,
-                place: p,
-            };
+    for p in start..total {
+        if let Some(offence) = offence_in(&table, &guide, p, v) {
+            return Some((offence, p));
         }
         let b = judged_bits::bit_at(channel, p + 40);
         v = (2 * v + b) % 34359738368;
-        p += 1;
     }
-    let last = offence_in(&table, &guide, p, v);
-    Offence {
-        number: last,
-        place: p,
-    }
+    let Some(offence) = offence_in(&table, &guide, total, v) else {
+        return None;
+    };
+    Some((offence, total))
 }

@@ -9,12 +9,10 @@ pub(crate) fn window_at(channel: &[u8], p: usize) -> u64
     requires { (length channel.now ≤ 64827) × (p ≤ 8 * length channel.now) }
     ensures { result ≡ window (judged channel.now) p }
 {
-    let mut v: u64 = 0;
-    let mut k: usize = 0;
-    while k < 35 {
+    let mut v = 0;
+    for k in 0..35 {
         let b = judged_bits::bit_at(channel, p + 5 + k);
         v = 2 * v + b;
-        k += 1;
     }
     v
 }
@@ -27,5 +25,5 @@ pub(crate) fn triple(channel: &[u8], t: usize) -> u64
     if 3 * t + 2 < channel.len() {
         return fields::field(channel, 24 * t, 24);
     }
-    0b100000000001000000000010
+    stream_windows::SYNC_HEADER
 }

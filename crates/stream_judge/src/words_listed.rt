@@ -5,17 +5,12 @@ ghost use Rattle.words.specs.LookUp.{Guide};
 ghost use Rattle.stream_rules.specs.Offences.{listed};
 ghost use Rattle.stream_judge.specs.Inner.{WordsRight, WordsClear};
 
-use words::Symbol;
-
 // A word of Annex D.
 pub(crate) fn is_listed(table: &[u16; 256], guide: &[u8; 1351], w: u16) -> bool
     requires { (table.now ≡ words) × Guide guide.now }
     ensures { result ≡ listed w }
 {
-    let Symbol::Byte(_b) = looking_up::look_up(table, guide, w) else {
-        return false;
-    };
-    true
+    looking_up::look_up(table, guide, w).is_some()
 }
 
 // All words of frame f may stand where they stand.
@@ -24,15 +19,13 @@ fn is_frame_right(channel: &[u8], table: &[u16; 256], guide: &[u8; 1351], f: usi
     ensures { result ≡ true → WordsRight channel.now f 33 }
 {
     let row = f % 98;
-    let mut i: usize = 0;
-    while i < 33 {
+    for i in 0..33 {
         let w = fields::field(channel, 588 * f + 27 + 17 * i, 14) as u16;
         let known = is_listed(table, guide, w);
         let right = offence_tests::is_right_word(row, i, w, known);
         if !right {
             return false;
         }
-        i += 1;
     }
     true
 }
@@ -44,13 +37,11 @@ pub(crate) fn listed_until(channel: &[u8], n: usize) -> usize
 {
     let table = words::all_words();
     let guide = words::guide();
-    let mut f: usize = 0;
-    while f < 98 * n {
+    for f in 0..98 * n {
         let right = is_frame_right(channel, &table, &guide, f);
         if !right {
             return 588 * f;
         }
-        f += 1;
     }
-    588 * f
+    57624 * n
 }

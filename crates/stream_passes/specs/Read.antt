@@ -1,13 +1,11 @@
 -- What is accepted is read: each Section of it without an unknown word or a lost frame, with SYNC 0 and SYNC 1 at their places.
 -- Assumes nothing.
-use Rattle.std.specs.Prelude.{◌≡◌, refl, Bool, true, false, cond, not, List, [], ◌++◌, ℕ, ◌+◌, ◌*◌, ◌/◌, ◌%◌, ◌≤◌, ◌<◌, eqb, length, take, drop}
+use Rattle.std.specs.Prelude.{◌≡◌, refl, Bool, true, false, cond, not, List, [], ◌++◌, ℕ, ◌+◌, ◌*◌, ◌/◌, ◌%◌, ◌≤◌, ◌<◌, eqb, length, take, drop, Option, Some, None}
 use Rattle.std.proofs.Common.{sym, ap, ap₂, ◌∙◌, append_assoc, arith, eqb-true, eq-eqb, length-drop, take-append-drop, length-take-le}
 use Rattle.outcome.specs.Say.{done}
 use Rattle.outcome.specs.Table.Entries.{tabulated-same}
 use Rattle.bits.specs.Bits.{unpack}
 use Rattle.bits.proofs.Bits.Packed.{length-unpack, unpack-append}
-use Rattle.words.specs.declared.Symbol.{Symbol}
-use Rattle.words.specs.declared.Symbol.TheVariants.{Byte, Unknown}
 use Rattle.words.specs.Words.{words, place_of, byte_of, sync0, sync1, sync_header}
 use Rattle.words.specs.Words.Different.{sync0_unknown, sync1_unknown}
 use Rattle.merging.specs.Rule.{sync_header_bits}
@@ -34,7 +32,7 @@ section_of channel s = take 7203 (drop (7203 * s) channel)
 
 listed-mark : (w i : ℕ) → listed w ≡ true → mark_for (byte_of w) w i ≡ 0
 unfolding listed byte_of
-listed-mark w i e = ap (λ (t : Bool). mark_for (cond t (Byte (place_of w words)) Unknown) w i) e
+listed-mark w i e = ap (λ (t : Bool). mark_for (cond t (Some (place_of w words)) None) w i) e
 
 mark-right : (f i w : ℕ) → right_word f i w ≡ true → mark_for (byte_of w) w i ≡ laid_mark f i
 unfolding right_word
@@ -43,9 +41,9 @@ mark-right f i w e = go (eqb i 0) (eqb f 0) (eqb f 1) refl e
     go : (p q r : Bool) → eqb i 0 ≡ p → cond p (cond q (eqb w sync0) (cond r (eqb w sync1) (listed w))) (listed w) ≡ true
         → mark_for (byte_of w) w i ≡ cond p (cond q 2 (cond r 3 0)) 0
     go true true r p u =
-        ap (λ (x : ℕ). mark_for (byte_of x) x i) (eqb-true w sync0 u) ∙ ap (λ (t : Symbol). mark_for t sync0 i) sync0_unknown ∙ ap (λ (t : Bool). cond t 2 1) p
+        ap (λ (x : ℕ). mark_for (byte_of x) x i) (eqb-true w sync0 u) ∙ ap (λ (t : Option ℕ). mark_for t sync0 i) sync0_unknown ∙ ap (λ (t : Bool). cond t 2 1) p
     go true false true p u =
-        ap (λ (x : ℕ). mark_for (byte_of x) x i) (eqb-true w sync1 u) ∙ ap (λ (t : Symbol). mark_for t sync1 i) sync1_unknown ∙ ap (λ (t : Bool). cond t 3 1) p
+        ap (λ (x : ℕ). mark_for (byte_of x) x i) (eqb-true w sync1 u) ∙ ap (λ (t : Option ℕ). mark_for t sync1 i) sync1_unknown ∙ ap (λ (t : Bool). cond t 3 1) p
     go true false false p u = listed-mark w i u
     go false q r p u = listed-mark w i u
 

@@ -1,16 +1,17 @@
 -- The invariant of the pass over the rows: the sums of the columns of the rows passed.
 -- Assumes nothing.
-use mathlib.Core.Path.{◌≡◌, refl, sym, ap, ◌∙◌}
+use mathlib.Core.Path.{◌≡◌, refl, sym, ap, ◌∙◌, subst}
 use mathlib.Core.Bool.{Bool, true, cond}
-use mathlib.Core.List.{List, ◌∷◌}
+use mathlib.Core.List.{List, ◌∷◌, ◌++◌}
 use Prim.Native.Nat.{ℕ, zero, suc, ◌+◌, ◌-◌, ◌*◌, ◌/◌, ◌<◌, ◌≤◌}
 use native.Mathlib.Nat.{mul-zero, mul-suc, mul_comm, suc-mul, div-eq_of_lt-le}
 use native.Mathlib.Numerals.{add-one}
 use native.Mathlib.Omega.{arith}
 use borrow.Author.Tests.{eq-eqb}
 use lib.Dec.{eqb}
-use lib.ListN.{length, get_or, take, drop, replicate, length-take, length-drop, length-replicate}
-use lib.Seq.{get_or-take, get_or-drop}
+use lib.ListN.{length, get_or, take, drop, replicate, length-take, length-drop, length-append, length-replicate}
+use lib.Seq.{get_or-take, get_or-drop, take_at, drop_at}
+use Rattle.std.proofs.Common.{drop-drop}
 use Rattle.outcome.specs.Bytes.{Bytes}
 use Rattle.outcome.specs.Table.{tabulated}
 use Rattle.xor.specs.Added.{added}
@@ -103,3 +104,36 @@ module _ {rows s0 s1 : List ℕ} {w at : ℕ} (f : Sweeping rows w at s0 s1) whe
     f.first ∙ ap (λ (n : ℕ). column_sums 0 w n rows) (sym (all_passed h)),
     f.second ∙ ap (λ (n : ℕ). column_sums 1 w n rows) (sym (all_passed h)),
   )
+
+-- ---- the same by what is left of the rows, as an iterator over them has it
+
+pub record Passing (rows : List ℕ) (w : ℕ) (rest s0 s1 : List ℕ) : Type 0 where
+  pub at : ℕ
+  pub so_far : Sweeping rows w at s0 s1
+  pub left : drop at rows ≡ rest
+
+module _ {rows rest s0 s1 : List ℕ} {w : ℕ} (g : Passing rows w rest s0 s1) where
+  pub width_0 : length s0 ≡ w
+  width_0 = long_0 g.so_far
+
+  pub width_1 : length s1 ≡ w
+  width_1 = long_1 g.so_far
+
+  pub passing_more : (x next_rest : List ℕ) → rest ≡ x ++ next_rest → length x ≡ w → (r : Bool) (t0 t1 : List ℕ)
+      → (r ≡ eqb (length s0) (length x)) × (t0 ≡ cond r (added s0 x) s0) → t1 ≡ risen s1 x → Passing rows w next_rest t0 t1
+  passing_more x next_rest e l r t0 t1 p q =
+      let parts : drop g.at rows ≡ x ++ next_rest = g.left ∙ e in
+      let row : x ≡ take (g.at + w - g.at) (drop g.at rows) =
+      sym (ap (take (g.at + w - g.at)) parts ∙ take_at x next_rest (g.at + w - g.at) (omega arith)) in
+      let room : w ≤ length rows - g.at = omega (arith, length-drop g.at rows, ap length parts, length-append x next_rest) in
+      record {
+        at = g.at + w;
+        so_far =
+            sweeping_more g.so_far r t0 t1 room
+            (subst (λ (y : List ℕ). (r ≡ eqb (length s0) (length y)) × (t0 ≡ cond r (added s0 y) s0)) row p)
+            (subst (λ (y : List ℕ). t1 ≡ risen s1 y) row q);
+        left = sym (drop-drop w g.at rows) ∙ ap (drop w) parts ∙ drop_at x next_rest w l;
+      }
+
+  pub passing_all : length rest < w → (s0 ≡ all_sums 0 w rows) × (s1 ≡ all_sums 1 w rows)
+  passing_all h = sweeping_all g.so_far (omega (arith, length-drop g.at rows, ap length g.left))

@@ -13,12 +13,10 @@ fn raise(to: &mut [u8], row: &[u8])
     requires { length to.old ≡ length row.now }
     ensures { to.new ≡ risen to.old row.now }
 {
-    let mut k: usize = 0;
-    while k < row.len() {
+    for (k, byte) in row.iter().enumerate() {
         let so_far = to[k];
         let raised = times_alpha(so_far);
-        to[k] = raised ^ row[k];
-        k += 1;
+        to[k] = raised ^ *byte;
     }
 }
 
@@ -30,13 +28,9 @@ fn pass(rows: &[u8], s0: &mut [u8], s1: &mut [u8])
 {
     clear(s0);
     clear(s1);
-    let w = s0.len();
-    let mut at: usize = 0;
-    while w <= rows.len() - at {
-        let row = &rows[at..at + w];
+    for row in rows.chunks_exact(s0.len()) {
         xor::add(s0, row);
         raise(s1, row);
-        at += w;
     }
 }
 

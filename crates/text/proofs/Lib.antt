@@ -1,2 +1,3 @@
-pub mod Digits
-pub mod Word
+-- what is written of a number
+pub mod Printed
+pub mod Hex

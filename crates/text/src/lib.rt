@@ -5,9 +5,5 @@ mod lines;
 
 pub use lines::{fate_line, first_line, last_line, tail_line};
 
-// A line of text: the first `len` of the bytes, and zeros after them. No line of the report is longer than 96 bytes.
-#[derive(Clone, Copy)]
-pub struct Text {
-    pub bytes: [u8; 96],
-    pub len: usize,
-}
+// A line of text. No line of the report is longer than 96 bytes.
+pub type Text = arrayvec::ArrayString<96>;

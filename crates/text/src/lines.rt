@@ -1,7 +1,8 @@
-// Every line of the report (document 01, "The report"). The private functions write at the end of a text that has room.
+// Every line of the report (document 01, "The report"). The private functions write at the end of a line and ask that it has
+// room, so that they cannot fail; `write!` would answer with a result of which no clause says that it is `Ok`.
 ghost use Rattle.std.specs.Prelude.{◌≡◌, [], ◌∷◌, ◌++◌, ◌+◌, ◌≤◌, ◌<◌, length};
-ghost use Rattle.text.specs.Line.{Holds, Appended, AppendedWithin};
-ghost use Rattle.numerals.specs.Numerals.{digit, decimal, hex};
+ghost use Rattle.arrayvec.specs.ArrayString.{array_string_len};
+ghost use Rattle.numerals.specs.Numerals.{decimal, hex};
 ghost use Rattle.text.specs.Report.{first_line, time_text, fate_text, fate_line, tail_line, last_line};
 
 use crate::Text;
@@ -9,128 +10,118 @@ use address::HeaderTime;
 use fate_counts::Fate;
 use numerals::hex_digit;
 
-// A text that says nothing yet.
-fn empty() -> Text
-    ensures { Holds [] result }
-{
-    Text {
-        bytes: [0; 96],
-        len: 0,
-    }
-}
-
 // The report's first line.
 pub fn first_line() -> Text
-    ensures { Holds first_line result }
+    ensures { result.bytes ≡ first_line }
 {
-    put_word(empty(), b"cd sectors 1\n")
+    let mut line = Text::new();
+    line.push_str("cd sectors 1\n");
+    line
 }
 
 // The line of the Sector with this index.
 pub fn fate_line(index: u64, fate: Fate) -> Text
-    ensures { Holds (fate_line index fate) result }
+    ensures { result.bytes ≡ fate_line index fate }
 {
-    let start = put(put_number(empty(), index), b' ');
-    put(put_fate(start, fate), b'\n')
+    let mut line = Text::new();
+    put_number(&mut line, index);
+    line.push_str(" ");
+    put_fate(&mut line, fate);
+    line.push_str("\n");
+    line
 }
 
 // The line that counts the leftover bytes: empty if there are none.
 pub fn tail_line(left: u64) -> Text
-    ensures { Holds (tail_line left) result }
+    ensures { result.bytes ≡ tail_line left }
 {
+    let mut line = Text::new();
     if left == 0 {
-        return empty();
+        return line;
     }
-    put(put_labelled(empty(), b"tail ", left), b'\n')
+    put_labelled(&mut line, "tail ", left);
+    line.push_str("\n");
+    line
 }
 
 // The report's last line.
 pub fn last_line(clean: u64, repaired: u64, refused: u64) -> Text
-    ensures { Holds (last_line clean repaired refused) result }
+    ensures { result.bytes ≡ last_line clean repaired refused }
 {
-    let first = put_labelled(empty(), b"clean ", clean);
-    let second = put_labelled(first, b" repaired ", repaired);
-    let third = put_labelled(second, b" refused ", refused);
-    put(third, b'\n')
+    let mut line = Text::new();
+    put_labelled(&mut line, "clean ", clean);
+    put_labelled(&mut line, " repaired ", repaired);
+    put_labelled(&mut line, " refused ", refused);
+    line.push_str("\n");
+    line
 }
 
 // A fate's word, and what comes with it.
-fn put_fate(t: Text, fate: Fate) -> Text
-    requires { t.len + 36 ≤ 96 }
-    ensures { AppendedWithin 36 t (fate_text fate) result }
+fn put_fate(line: &mut Text, fate: Fate)
+    requires { array_string_len line.old + 36 ≤ 96 }
+    ensures text { line.new.bytes ≡ line.old.bytes ++ fate_text fate }
+    ensures len { array_string_len line.new ≤ array_string_len line.old + 36 }
 {
     match fate {
-        Fate::Clean(time) => put_time(put_word(t, b"clean "), time),
-        Fate::Repaired(time, changed) => {
-            put_labelled(put_time(put_word(t, b"repaired "), time), b" ", changed)
+        Fate::Clean(time) => {
+            line.push_str("clean ");
+            put_time(line, time);
         }
-        Fate::Refused(number) => put_labelled(t, b"refused ", number),
+        Fate::Repaired(time, changed) => {
+            line.push_str("repaired ");
+            put_time(line, time);
+            put_labelled(line, " ", changed);
+        }
+        Fate::Refused(number) => put_labelled(line, "refused ", number),
     }
 }
 
 // A word, and the number that it is about.
-fn put_labelled(t: Text, label: &[u8], n: u64) -> Text
-    requires { t.len + (length label.now + 20) ≤ 96 }
-    ensures { AppendedWithin (length label.now + 20) t (label.now ++ decimal n) result }
+fn put_labelled(line: &mut Text, label: &str, n: u64)
+    requires { array_string_len line.old + (length label.now + 20) ≤ 96 }
+    ensures text { line.new.bytes ≡ line.old.bytes ++ (label.now ++ decimal n) }
+    ensures len { array_string_len line.new ≤ array_string_len line.old + (length label.now + 20) }
 {
-    put_number(put_word(t, label), n)
+    line.push_str(label);
+    put_number(line, n);
 }
 
 // Minute, second and frame, two hex digits each.
-fn put_time(t: Text, time: HeaderTime) -> Text
-    requires { t.len + 6 ≤ 96 }
-    ensures { Appended t (time_text time) result }
+fn put_time(line: &mut Text, time: HeaderTime)
+    requires { array_string_len line.old + 6 ≤ 96 }
+    ensures text { line.new.bytes ≡ line.old.bytes ++ time_text time }
+    ensures len { array_string_len line.new ≡ array_string_len line.old + 6 }
 {
-    put_hex(put_hex(put_hex(t, time.0), time.1), time.2)
+    put_hex(line, time.0);
+    put_hex(line, time.1);
+    put_hex(line, time.2);
 }
 
-// One byte.
-fn put(t: Text, b: u8) -> Text
-    requires { t.len < 96 }
-    ensures { Appended t (b ∷ []) result }
+// A number in decimal digits, of which a u64 has at most 20.
+fn put_number(line: &mut Text, n: u64)
+    requires { array_string_len line.old + 20 ≤ 96 }
+    ensures text { line.new.bytes ≡ line.old.bytes ++ decimal n }
+    ensures len { array_string_len line.new ≤ array_string_len line.old + 20 }
 {
-    let at = t.len;
-    let mut bytes = t.bytes;
-    bytes[at] = b;
-    Text { bytes, len: at + 1 }
-}
-
-// Some bytes.
-fn put_word(t: Text, word: &[u8]) -> Text
-    requires { t.len + length word.now ≤ 96 }
-    ensures { Appended t word.now result }
-{
-    let mut to = t;
-    let mut i: usize = 0;
-    while i < word.len() {
-        to = put(to, word[i]);
-        i += 1;
-    }
-    to
-}
-
-// A number in decimal digits: those of its tenth part, and then its last one.
-fn put_number(t: Text, n: u64) -> Text
-    requires { t.len + length (decimal n) ≤ 96 }
-    ensures { Appended t (decimal n) result }
-{
-    if n < 10 {
-        return put(t, decimal_digit(n));
-    }
-    put(put_number(t, n / 10), decimal_digit(n % 10))
+    let mut digits = itoa::Buffer::new();
+    line.push_str(digits.format(n));
 }
 
 // A byte in two capital hex digits.
-fn put_hex(t: Text, b: u8) -> Text
-    requires { t.len + 2 ≤ 96 }
-    ensures { Appended t (hex b) result }
+fn put_hex(line: &mut Text, b: u8)
+    requires { array_string_len line.old + 2 ≤ 96 }
+    ensures text { line.new.bytes ≡ line.old.bytes ++ hex b }
+    ensures len { array_string_len line.new ≡ array_string_len line.old + 2 }
 {
-    put(put(t, hex_digit(b / 16)), hex_digit(b % 16))
+    put(line, hex_digit(b / 16));
+    put(line, hex_digit(b % 16));
 }
 
-fn decimal_digit(d: u64) -> u8
-    requires { d < 10 }
-    ensures { result ≡ digit d }
+// One character.
+fn put(line: &mut Text, ascii: u8)
+    requires { (ascii < 128) × (array_string_len line.old < 96) }
+    ensures text { line.new.bytes ≡ line.old.bytes ++ ascii ∷ [] }
+    ensures len { array_string_len line.new ≡ array_string_len line.old + 1 }
 {
-    b'0' + d as u8
+    line.push(ascii as char);
 }

@@ -8,11 +8,14 @@ ghost use Rattle.traces.specs.Better.{better_of};
 ghost use Rattle.traces.specs.Strokes.{spent};
 ghost use Rattle.traces.specs.Traces.{light, fits};
 
-// The automaton's state where the rule is broken.
-const BROKEN: u8 = 22;
+use automaton_states::BROKEN;
 
-// The level after what was written, 1 for +1 and 0 for -1, and how many bits there ever were at level +1 and at -1.
-#[derive(Clone, Copy)]
+// A count has room for a word more below this one, and far enough above it before it would wrap.
+const FULL: u64 = 1152921504606846976;
+
+// The level after what was written, 1 for +1 and 0 for -1, and how many bits there ever were at level +1 and at -1. The level is a number, since
+// `is_light` takes every one and says which is no level: a bool would take fewer.
+#[derive(Clone, Copy, Debug, PartialEq, Eq)]
 pub struct Tally {
     pub level: u8,
     pub plus: u64,
@@ -20,41 +23,33 @@ pub struct Tally {
 }
 
 // What was written so far, as far as it matters to the Merging bits that follow: the automaton's state, and the tally.
-#[derive(Clone, Copy)]
+#[derive(Clone, Copy, Debug, PartialEq, Eq)]
 pub struct Trace {
     pub run: u8,
     pub tally: Tally,
 }
 
 // Merging bits, with the word after them if there is one, and the trace after what follows them.
-#[derive(Clone, Copy)]
+#[derive(Clone, Copy, Debug, PartialEq, Eq)]
 pub struct Choice {
     pub bits: u32,
     pub after: Trace,
 }
 
 // The tally has room for a word more.
+#[tactic(auto, unfolding(crate::specs::Traces::light))]
 pub fn is_light(t: Tally) -> bool
     ensures { result ≡ light t }
 {
-    if t.level <= 1 {
-        if t.plus < 1152921504606846976 {
-            return t.minus < 1152921504606846976;
-        }
-        return false;
-    }
-    false
+    t.level <= 1 && t.plus < FULL && t.minus < FULL
 }
 
 // The rule is not broken, and the tally has room for a word more.
+#[tactic(auto, unfolding(crate::specs::Traces::fits))]
 pub fn is_fit(t: Trace) -> bool
     ensures { result ≡ fits t }
 {
-    let tally = t.tally;
-    if t.run < BROKEN {
-        return is_light(tally);
-    }
-    false
+    t.run < BROKEN && is_light(t.tally)
 }
 
 // The level after an even or an odd number of ONEs.
@@ -62,35 +57,27 @@ fn flipped(level: u8, odd: u8) -> u8
     ensures { result ≡ (if nat_eq odd 0 then level else 1 - level) }
 {
     if odd == 0 {
-        return level;
+        level
+    } else {
+        1u8.saturating_sub(level)
     }
-    if level == 0 {
-        return 1;
-    }
-    0
 }
 
 // The tally after some bits at a stroke: `same` of them at the level before them and `other` at the other one; the level flips if `odd` is not
 // 0. The counts wrap, where a tally that has room for them does not come.
+#[tactic(auto, unfolding(crate::specs::Strokes::spent))]
 pub fn spend(t: Tally, same: u64, other: u64, odd: u8) -> Tally
     ensures { result ≡ spent t same other odd }
 {
-    let level = flipped(t.level, odd);
-    if t.level == 1 {
-        let plus = std::num::wrapping_add_u64(t.plus, same);
-        let minus = std::num::wrapping_add_u64(t.minus, other);
-        return Tally {
-            level: level,
-            plus: plus,
-            minus: minus,
-        };
-    }
-    let plus = std::num::wrapping_add_u64(t.plus, other);
-    let minus = std::num::wrapping_add_u64(t.minus, same);
+    let (ups, downs) = if t.level == 1 {
+        (same, other)
+    } else {
+        (other, same)
+    };
     Tally {
-        level: level,
-        plus: plus,
-        minus: minus,
+        level: flipped(t.level, odd),
+        plus: t.plus.wrapping_add(ups),
+        minus: t.minus.wrapping_add(downs),
     }
 }
 
@@ -98,27 +85,18 @@ pub fn spend(t: Tally, same: u64, other: u64, odd: u8) -> Tally
 fn abs_dsv(t: Tally) -> u64
     ensures { result ≡ absolute t.plus t.minus }
 {
-    if t.minus <= t.plus {
-        return t.plus - t.minus;
-    }
-    t.minus - t.plus
+    t.plus.abs_diff(t.minus)
 }
 
 // The second if it is allowed and the first isn't, or if both are and the second has the smaller absolute DSV.
+#[tactic(auto, unfolding(crate::specs::Better::better_of))]
 pub fn better_of(a: Choice, b: Choice) -> Choice
     ensures { result ≡ better_of a b }
 {
-    let x = a.after;
-    let y = b.after;
-    if y.run == BROKEN {
+    if b.after.run == BROKEN {
         return a;
     }
-    if x.run == BROKEN {
-        return b;
-    }
-    let p = abs_dsv(x.tally);
-    let q = abs_dsv(y.tally);
-    if q < p {
+    if a.after.run == BROKEN || abs_dsv(b.after.tally) < abs_dsv(a.after.tally) {
         return b;
     }
     a

@@ -12,10 +12,8 @@ pub fn power_of(n: usize) -> u8
     ensures { result ≡ power n }
 {
     let mut x: u8 = 1;
-    let mut i: usize = 0;
-    while i < n {
+    for _i in 0..n {
         x = times_alpha(x);
-        i += 1;
     }
     x
 }

@@ -1,13 +1,13 @@
 // The verdict on a word of a code (Annex A, Annex C.7): what to do with it, by the fault that its sums tell.
 #![tactic(auto)]
 
-ghost use Rattle.std.specs.Prelude.{◌≡◌, ℕ, ◌<◌, length};
+ghost use Rattle.std.specs.Prelude.{◌≡◌, ℕ, ◌<◌, ◌^◌, length};
 ghost use Rattle.codeword.specs.Nearest.{verdict};
 ghost use Rattle.codeword.specs.Fault.{cure};
 
 use codeword::{Fault, Verdict};
-use faults::{fault_of_four, fault_of_two};
-use word_sums::{four_sums, two_sums};
+use faults::fault;
+use word_sums::sums;
 
 // What to do with a word that has this fault.
 fn cured(w: &[u8], f: Fault) -> Verdict
@@ -21,17 +21,24 @@ fn cured(w: &[u8], f: Fault) -> Verdict
     }
 }
 
-// What to do with a word of P or Q.
+// What to do with a word of a code of N sums, which have to fit into memory.
+fn verdict<const N: usize>(w: &[u8]) -> Verdict
+    requires { N < 2 ^ 63 }
+    ensures { result ≡ verdict N w.now }
+{
+    cured(w, fault(sums::<N>(w), w.len()))
+}
+
+// What to do with a word of P or Q. No public function requires anything, so there is one for each number of sums.
 pub fn verdict_of_two(w: &[u8]) -> Verdict
     ensures { result ≡ verdict 2 w.now }
 {
-    let s = two_sums(w);
-    cured(w, fault_of_two(s.0, s.1, w.len()))
+    verdict::<2>(w)
 }
 
 // What to do with a word of C1 or C2.
 pub fn verdict_of_four(w: &[u8]) -> Verdict
     ensures { result ≡ verdict 4 w.now }
 {
-    cured(w, fault_of_four(four_sums(w), w.len()))
+    verdict::<4>(w)
 }

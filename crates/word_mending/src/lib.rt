@@ -1,14 +1,14 @@
 // One codeword of a parity of a Sector (Annex A) mended in place, by its sums.
 #![tactic(auto)]
 
-ghost use Rattle.std.specs.Prelude.{◌≡◌, [], ◌∷◌};
+ghost use Rattle.std.specs.Prelude.{◌≡◌};
 ghost use Rattle.codeword.specs.Fault.{fault};
 ghost use Rattle.rspc.specs.Columns.{in_column};
 ghost use Rattle.rspc.specs.Either.{rows_of};
 ghost use Rattle.word_mending.specs.Mend.{explained, mended_at};
 
 use codeword::Fault;
-use faults::fault_of_two;
+use faults::fault;
 use rspc::{Parity, place_of, rows_of};
 
 // The codeword in column k.
@@ -21,27 +21,21 @@ fn word_in(parity: Parity, k: u8) -> u8
     }
 }
 
-// The codeword in column k, whose sums are x and y, is mended where one wrong byte explains them; the answer is false where none does.
+// The codeword in column k, whose first sums these are, is mended where one wrong byte explains them; the answer is false where none does.
 // A byte behind the end stays out.
-pub fn mend(s: &mut [u8], parity: Parity, k: u8, x: u8, y: u8) -> bool
-    ensures { (result ≡ explained (fault (x ∷ y ∷ []) (rows_of parity)))
-        × (s.new ≡ mended_at parity s.old (in_column parity k) (fault (x ∷ y ∷ []) (rows_of parity))) }
+pub fn mend(s: &mut [u8], parity: Parity, k: u8, sums: [u8; 2]) -> bool
+    ensures { (result ≡ explained (fault sums (rows_of parity)))
+        × (s.new ≡ mended_at parity s.old (in_column parity k) (fault sums (rows_of parity))) }
 {
-    let f = fault_of_two(x, y, rows_of(parity));
-    match f {
-        Fault::Clean => {
-            return true;
-        }
+    match fault(sums, rows_of(parity)) {
+        Fault::Clean => true,
         Fault::At(i, e) => {
             let at = place_of(parity, word_in(parity, k), i as u8);
-            if s.len() <= at {
-                return true;
+            if at < s.len() {
+                s[at] ^= e;
             }
-            s[at] = s[at] ^ e;
-            return true;
+            true
         }
-        Fault::Lost => {
-            return false;
-        }
+        Fault::Lost => false,
     }
 }

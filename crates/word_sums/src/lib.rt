@@ -1,45 +1,22 @@
-// The first sums of a word of a code (Annex A, Annex C.7) in one pass: with each byte, sum j so far is taken times α^j and the byte is added (Horner).
+// The first sums of a word of a code (Annex A, Annex C.7): with each byte, sum j so far is taken times α^j and the byte is added (Horner).
 #![tactic(auto)]
 
 ghost use Rattle.std.specs.Prelude.{◌≡◌};
-ghost use Rattle.codeword.specs.Code.{sums};
-ghost use Rattle.codeword.specs.Pair.{pair};
+ghost use Rattle.codeword.specs.Code.{sum, sums};
 
-use codeword::TwoBytes;
-use products::{ALPHA, ALPHA_2, ALPHA_3, product};
+use products::times_power;
+use std::array;
 
-// Sums 0 and 1.
-pub fn two_sums(w: &[u8]) -> TwoBytes
-    ensures { pair result ≡ sums 2 w.now }
+// Sum j.
+fn sum(w: &[u8], j: usize) -> u8
+    ensures { result ≡ sum j w.now }
 {
-    let mut s0: u8 = 0;
-    let mut s1: u8 = 0;
-    let mut i: usize = 0;
-    while i < w.len() {
-        let b = w[i];
-        s0 = s0 ^ b;
-        s1 = product(s1, ALPHA) ^ b;
-        i += 1;
-    }
-    TwoBytes(s0, s1)
+    w.iter().fold(0, |sum, b| times_power(sum, j) ^ b)
 }
 
-// Sums 0 to 3.
-pub fn four_sums(w: &[u8]) -> [u8; 4]
-    ensures { result ≡ sums 4 w.now }
+// Sums 0 to N - 1.
+pub fn sums<const N: usize>(w: &[u8]) -> [u8; N]
+    ensures { result ≡ sums N w.now }
 {
-    let mut s0: u8 = 0;
-    let mut s1: u8 = 0;
-    let mut s2: u8 = 0;
-    let mut s3: u8 = 0;
-    let mut i: usize = 0;
-    while i < w.len() {
-        let b = w[i];
-        s0 = s0 ^ b;
-        s1 = product(s1, ALPHA) ^ b;
-        s2 = product(s2, ALPHA_2) ^ b;
-        s3 = product(s3, ALPHA_3) ^ b;
-        i += 1;
-    }
-    [s0, s1, s2, s3]
+    array::from_fn(|j| sum(w, j))
 }

@@ -1,9 +1,7 @@
 -- The byte of a word by a guide: a list with a byte for each remainder by 1,351. No two words leave the same remainder, so the byte under the
 -- remainder of 14 bits is the only one whose word they can be.
 -- Assumes nothing.
-use Rattle.std.specs.Prelude.{◌≡◌, cond, List, ℕ, ◌<◌, ◌%◌, eqb, length, get_or}
-use Rattle.words.specs.declared.Symbol.{Symbol}
-use Rattle.words.specs.declared.Symbol.TheVariants.{Byte, Unknown}
+use Rattle.std.specs.Prelude.{◌≡◌, cond, List, ℕ, ◌<◌, ◌%◌, eqb, length, get_or, Option, Some, None}
 use Rattle.words.specs.Words.{word_of}
 pub mod One
 pub mod Finds
@@ -19,5 +17,5 @@ pub record Guide (g : List ℕ) : Type 0 where
   pub free : (i : ℕ) → Free i → get_or g i 0 ≡ 0
 
 -- the byte that the guide has for w, if w stands there in the table
-abbrev pub looked_up : List ℕ → List ℕ → ℕ → Symbol
-looked_up ws g w = cond (eqb (get_or ws (get_or g (w % 1351) 0) 0) w) (Byte (get_or g (w % 1351) 0)) Unknown
+abbrev pub looked_up : List ℕ → List ℕ → ℕ → Option ℕ
+looked_up ws g w = cond (eqb (get_or ws (get_or g (w % 1351) 0) 0) w) (Some (get_or g (w % 1351) 0)) None

@@ -1,9 +1,7 @@
 -- The 8-to-14 code of Annex D: a word of 14 Channel bits for each byte, with document 01's corrections for (48) to (6A); SYNC 0, SYNC 1 and the Sync
 -- Header (clauses 19.1 and 19.2).
 -- Assumes nothing.
-use Rattle.std.specs.Prelude.{cond, List, [], ◌∷◌, ℕ, suc, eqb, ltb, get_or}
-use Rattle.words.specs.declared.Symbol.{Symbol}
-use Rattle.words.specs.declared.Symbol.TheVariants.{Byte, Unknown}
+use Rattle.std.specs.Prelude.{cond, List, [], ◌∷◌, ℕ, suc, eqb, ltb, get_or, Option, Some, None}
 pub mod Facts
 pub mod Different
 
@@ -65,10 +63,10 @@ abbrev pub place_of : ℕ → List ℕ → ℕ
 place_of w [] = 0
 place_of w (x ∷ xs) = cond (eqb x w) 0 (suc (place_of w xs))
 
--- the byte at a place of the table, and unknown beyond its end
-abbrev pub symbol_at : ℕ → Symbol
-symbol_at k = cond (ltb k 256) (Byte k) Unknown
+-- the byte at a place of the table, and none beyond its end
+abbrev pub symbol_at : ℕ → Option ℕ
+symbol_at k = cond (ltb k 256) (Some k) None
 
--- the byte whose word w is; unknown where w is no word
-unfoldable pub byte_of : ℕ → Symbol
+-- the byte whose word w is; none where w is no word
+unfoldable pub byte_of : ℕ → Option ℕ
 byte_of w = symbol_at (place_of w words)

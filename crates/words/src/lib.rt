@@ -7,13 +7,6 @@ ghost use Rattle.words.specs.LookUp.{Guide};
 
 mod table;
 
-// What 14 Channel bits stand for.
-#[derive(Clone, Copy)]
-pub enum Symbol {
-    Byte(u8),
-    Unknown,
-}
-
 // The 256 words. A loop fetches them once: a constant that is indexed in a loop is copied at each look-up.
 pub fn all_words() -> [u16; 256]
     ensures { result ≡ words }

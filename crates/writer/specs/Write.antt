@@ -1,13 +1,13 @@
 -- What the writer of a Sector answers and writes (clause 14; document 01, Order; document 02, §13).
 -- Assumes nothing.
-use Rattle.std.specs.Prelude.{◌≡◌, List, [], ℕ, eqb, length}
-use Rattle.outcome.specs.Say.{Say, done, refused, demand, cleared}
+use Rattle.std.specs.Prelude.{◌≡◌, ⊤, List, [], ℕ, Result, eqb, length}
+use Rattle.outcome.specs.Say.{Say, done, refused, said_by, demand, cleared}
 use Rattle.address.specs.Address.{in_range}
 use Rattle.sector.specs.Layout.{time_of, mode_of, user_length, user_data}
 use Rattle.sector.specs.Correct.{Correct}
 use Rattle.modes.specs.Modes.{is_written}
-use Rattle.writer.specs.declared.Written.{Written}
-use Rattle.writer.specs.declared.Written.TheVariants.{Done, WrongOutgoing, UnwrittenMode, WrongIncoming, WrongAddress}
+use Rattle.writer.specs.declared.WriteError.{WriteError}
+use Rattle.writer.specs.declared.WriteError.TheVariants.{WrongOutgoing, UnwrittenMode, WrongIncoming, WrongAddress}
 use Rattle.address.specs.declared.HeaderTime.{HeaderTime}
 pub mod Modes
 pub mod One
@@ -35,10 +35,12 @@ pub data Writes (mode : ℕ) (time : HeaderTime) (user old : List ℕ) : Say →
   refuses : {n : ℕ} {v : List ℕ} → says mode time user old ≡ refused n v → Writes mode time user old (refused n v) (cleared 2352 old)
   writes : {s : List ℕ} → says mode time user old ≡ done [] → Asked mode time user s → Writes mode time user old (done []) s
 
+abbrev pub refusal_of : WriteError → ℕ
+refusal_of WrongIncoming = 1
+refusal_of WrongOutgoing = 2
+refusal_of UnwrittenMode = 3
+refusal_of WrongAddress = 4
+
 -- document 01's number for each answer
-abbrev pub say_of : Written → Say
-say_of Done = done []
-say_of WrongOutgoing = refused 2 []
-say_of UnwrittenMode = refused 3 []
-say_of WrongIncoming = refused 1 []
-say_of WrongAddress = refused 4 []
+abbrev pub say_of : Result ⊤ WriteError → Say
+say_of = said_by (λ w. []) refusal_of

@@ -2,11 +2,12 @@
 #![tactic(auto)]
 
 ghost use Rattle.std.specs.Prelude.{◌≡◌, ◌≤◌, length};
-ghost use Rattle.writer.specs.Write.{Writes, say_of};
+ghost use Rattle.writer.specs.Write.{Writes, refusal_of, say_of};
 ghost use Rattle.writer.specs.Inner.Laid.{laid};
 ghost use Rattle.writer.specs.Inner.Make.{Askable, Makes};
 
 use address::HeaderTime;
+use outcome::Refusal;
 
 // A Sector with its front and its user data, and zeros to the end.
 fn lay_out(mode: u8, time: HeaderTime, user: &[u8]) -> [u8; 2352]
@@ -33,37 +34,49 @@ fn make(mode: u8, time: HeaderTime, user: &[u8]) -> [u8; 2352]
     s
 }
 
-// What becomes of what is to be written.
-#[derive(Clone, Copy)]
-pub enum Written {
-    Done,
+// Why nothing is written.
+#[derive(Clone, Copy, Debug, PartialEq, Eq)]
+pub enum WriteError {
     WrongOutgoing,
     UnwrittenMode,
     WrongIncoming,
     WrongAddress,
 }
 
+impl Refusal for WriteError {
+    ghost refusal_of = { refusal_of };
+
+    fn number(self) -> u8 {
+        match self {
+            WriteError::WrongIncoming => 1,
+            WriteError::WrongOutgoing => 2,
+            WriteError::UnwrittenMode => 3,
+            WriteError::WrongAddress => 4,
+        }
+    }
+}
+
 // Writes the Sector with this mode, address and user data, or refuses.
-pub fn write(mode: u8, time: HeaderTime, user: &[u8], out: &mut [u8]) -> Written
+pub fn write(mode: u8, time: HeaderTime, user: &[u8], out: &mut [u8]) -> Result<(), WriteError>
     ensures { Writes mode time user.now out.old (say_of result) out.new }
 {
     if out.len() != 2352 {
-        return Written::WrongOutgoing;
+        return Err(WriteError::WrongOutgoing);
     }
     if !modes::is_written(mode) {
         outcome::wipe(out, 2352);
-        return Written::UnwrittenMode;
+        return Err(WriteError::UnwrittenMode);
     }
     let right = modes::user_length(mode);
     if user.len() != right {
         outcome::wipe(out, 2352);
-        return Written::WrongIncoming;
+        return Err(WriteError::WrongIncoming);
     }
     if !time.in_range() {
         outcome::wipe(out, 2352);
-        return Written::WrongAddress;
+        return Err(WriteError::WrongAddress);
     }
     let s = make(mode, time, user);
     outcome::copy(&s, out);
-    Written::Done
+    Ok(())
 }

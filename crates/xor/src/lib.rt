@@ -12,10 +12,8 @@ pub fn add(to: &mut [u8], what: &[u8]) -> bool
     if to.len() != what.len() {
         return false;
     }
-    let mut i: usize = 0;
-    while i < what.len() {
-        to[i] = to[i] ^ what[i];
-        i += 1;
+    for (i, w) in what.iter().enumerate() {
+        to[i] ^= *w;
     }
     true
 }

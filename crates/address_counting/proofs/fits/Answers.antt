@@ -4,12 +4,12 @@ use mathlib.Core.Path.{sym, ◌∙◌}
 use Rattle.address_counting.specs.Count.{room}
 use Rattle.address_counting.proofs.fits.Goals as goal
 
-pub returns-then-not-in_range : goal.returns-then-not-in_range
-returns-then-not-in_range c = simp (sym c.in_range.ensures ∙ c.if-not-in_range.true)
-
 pub left-requires : goal.left-requires
-left-requires c = sym c.in_range.ensures ∙ c.if-not-in_range.false
+left-requires c = sym c.in_range.ensures ∙ c.if-in_range.true
 
-pub returns : goal.returns
+pub returns-then-in_range : goal.returns-then-in_range
 unfolding room
-returns c = simp (sym c.in_range.ensures ∙ c.if-not-in_range.false, c.left.ensures)
+returns-then-in_range c = simp (sym c.in_range.ensures ∙ c.if-in_range.true, c.left.ensures)
+
+pub returns-else-in_range : goal.returns-else-in_range
+returns-else-in_range c = c.if-in_range.false ∙ simp (sym c.in_range.ensures ∙ c.if-in_range.false)

@@ -6,12 +6,12 @@ use Rattle.address.specs.Order.{earlier}
 use Rattle.address_counting.specs.Count.{has_next}
 use Rattle.address_counting.proofs.has_next.Goals as goal
 
-pub returns-then-not-in_range : goal.returns-then-not-in_range
+pub returns-then-in_range : goal.returns-then-in_range
 unfolding has_next
-returns-then-not-in_range c = simp (sym c.in_range.ensures ∙ c.if-not-in_range.true)
-
-pub returns : goal.returns
-unfolding has_next
-returns c =
+returns-then-in_range c =
     let test = c.earlier.ensures ∙ ap (λ (u : HeaderTime). earlier c.args.time u) c.last_of.ensures in
-    simp (sym c.in_range.ensures ∙ c.if-not-in_range.false, test)
+    simp (sym c.in_range.ensures ∙ c.if-in_range.true, test)
+
+pub returns-else-in_range : goal.returns-else-in_range
+unfolding has_next
+returns-else-in_range c = c.if-in_range.false ∙ simp (sym c.in_range.ensures ∙ c.if-in_range.false)

@@ -8,6 +8,6 @@ use Rattle.aligning.proofs.put_aligned.Goals as goal
 pub returns : goal.returns
 returns c =
     let sectors = c.args.sectors.now in
-    laid_in c.args.n sectors c.args.out.now c.clear.new.out c.exchange_pairs.new.out c.clear-2.new.out
-    c.exchange_pairs.result (row-whole 2352 16 (length sectors) c.requires.0) c.requires.2 c.clear.ensures
-    c.exchange_pairs.ensures c.clear-2.ensures
+    laid_in c.args.n sectors c.args.out.now c.fill.new.self c.exchange_pairs.new.out c.fill-2.new.self
+    c.exchange_pairs.result (row-whole 2352 16 (length sectors) c.requires.0) c.requires.2 (c.fill.ensures.after (λ y e. e))
+    c.exchange_pairs.ensures (c.fill-2.ensures.after (λ y e. e))

@@ -1,23 +1,23 @@
 -- `alignment::in_row` meets its contract: each way out is a law of `Counted`.
 -- Assumes nothing.
+use mathlib.Core.Path.{◌∙◌}
+use borrow.Author.Tests.{eq-eqb, lt-ltb, le-ltb}
 use native.Mathlib.Omega.{arith}
-use Rattle.std.proofs.Common.{◌/◌, ◌≤◌, rules}
-use Rattle.alignment.specs.Row.Counted.{is_row_lem, not-whole, not-one, too_many, no_size}
+use Rattle.alignment.specs.Row.{is_row}
+use Rattle.alignment.specs.Row.Counted.{not-whole, not-one, no_size}
+use Rattle.alignment.proofs.in_row.Goals.{then-size-eq0-via-then-size-eq0, then-size-eq0-via-else-size-eq0+then-bytes-size-ne0}
 use Rattle.alignment.proofs.in_row.Goals as goal
 
 pub returns-then-size-eq0 : goal.returns-then-size-eq0
-returns-then-size-eq0 c = search no_size
+returns-then-size-eq0 c =
+    elim c.then-size-eq0.branch [
+      | then-size-eq0-via-then-size-eq0 w ↦ no_size _ _ _ w.if-size-eq0.true
+      | then-size-eq0-via-else-size-eq0+then-bytes-size-ne0 w ↦ not-whole _ _ _ w.if-bytes-size-ne0.true
+    ]
 
-pub returns-then-bytes-size-ne0 : goal.returns-then-bytes-size-ne0
-returns-then-bytes-size-ne0 c = search not-whole
+pub returns-then-n-gt0 : goal.returns-then-n-gt0
+unfolding is_row
+returns-then-n-gt0 c = simp (eq-eqb _ _ c.if-bytes-size-ne0.false, lt-ltb 0 _ c.if-n-gt0.true)
 
-pub returns-then-n-eq0 : goal.returns-then-n-eq0
-returns-then-n-eq0 c = search not-one
-
-pub returns-then-n-most : goal.returns-then-n-most
-returns-then-n-most c = search too_many
-
-pub returns : goal.returns
-returns c =
-    let few : c.args.bytes / c.args.size ≤ c.args.most = search rules in
-    is_row_lem _ _ _ c.if-bytes-size-ne0.false (omega arith) few
+pub returns-else-n-gt0 : goal.returns-else-n-gt0
+returns-else-n-gt0 c = le-ltb 0 _ (omega (arith, c.if-n-gt0.false)) ∙ not-one _ _ _ (omega (arith, c.if-n-gt0.false))

@@ -10,8 +10,7 @@ loop-i-init c = repairing_none _ _ _ _ c.no_fates-fates.ensures
 
 pub loop-i-preserved : goal.loop-i-preserved
 loop-i-preserved c =
-    rw c.with_fate-more.ensures
-    (repairing_more c.loop-i.invariant c.requires c.loop-i-test.true c.repair-repaired.result _ c.repair-repaired.ensures (search rules))
+    repairing_more c.loop-i.invariant c.requires c.loop-i-test.true c.repair.result _ c.repair.ensures (search rules)
 
 pub shape_of-out : goal.shape_of-out
 shape_of-out c = c.loop-i.invariant.as_long

@@ -3,14 +3,14 @@
 use Rattle.batch.proofs.WaysOut.{ways}
 use Rattle.batch.proofs.repair_many.Goals as goal
 
-pub returns-then-n-eq0 : goal.returns-then-n-eq0
-returns-then-n-eq0 c = search ways
+pub returns-in_default : goal.returns-in_default
+returns-in_default c = search ways
 
 pub returns-then-out-received : goal.returns-then-out-received
 returns-then-out-received c = search ways
 
 pub repair_each-requires : goal.repair_each-requires
-repair_each-requires c = (c.sectors_in-n.ensures.so_many c.if-n-eq0.false, c.if-out-received.false)
+repair_each-requires c = (c.sectors_in.ensures.so_many _ c.in-Some.is, c.if-out-received.false)
 
 pub returns : goal.returns
 returns c = search ways

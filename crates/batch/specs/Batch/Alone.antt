@@ -9,11 +9,9 @@ use Rattle.repair.specs.Repair as single
 use Rattle.repair.specs.Repair.{Repairs, wrong_incoming, wrong-outgoing, none-near, handed_out}
 use Rattle.repair.specs.Repair.Blind.{blind}
 use Rattle.repair.specs.Repair.Told.{says-one}
-use Rattle.repair.specs.declared.Repaired.{Repaired}
-use Rattle.batch.specs.declared.SectorFate.{SectorFate}
 use Rattle.batch.specs.Sectors.{sector_at}
 use Rattle.batch.specs.Sectors.Apart.{length_sector}
-use Rattle.batch.specs.Batch.{fate_at, say_at, Taken, RepairsMany, taken}
+use Rattle.batch.specs.Batch.{SectorFate, fate_at, say_at, Taken, RepairsMany, taken}
 
 -- what is known of a batch that is done
 pub when_done : {r old : List ℕ} {f : List SectorFate} {s : List ℕ} {n : ℕ} → RepairsMany r old (done (n ∷ [])) f s → Taken n r old f s
@@ -24,11 +22,11 @@ module _ {n : ℕ} {r old : List ℕ} {f : List SectorFate} {s : List ℕ} (p : 
   room i h = let d = when_done p in length_sector n i old (d.room ∙ d.some.long) h
 
   -- a single call on Sector i, into any buffer of the right length, has the same fate and leaves the same bytes
-  pub as_single_call : (i : ℕ) → i < n → (b : List ℕ) → length b ≡ 2352 → (a : Repaired) (x : List ℕ) → Repairs (sector_at i r) b (single.say_of a) x
-      → (a ≡ (fate_at i f).repaired) × (x ≡ sector_at i s)
+  pub as_single_call : (i : ℕ) → i < n → (b : List ℕ) → length b ≡ 2352 → (a : SectorFate) (x : List ℕ) → Repairs (sector_at i r) b (single.say_of a) x
+      → (a ≡ (fate_at i f)) × (x ≡ sector_at i s)
   as_single_call i h b l a x q =
       let e = blind (sector_at i r) b (sector_at i old) l (room i h) q ((when_done p).each i h) in
-      (says-one a (fate_at i f).repaired e.0, e.1)
+      (says-one a (fate_at i f) e.0, e.1)
 
   -- a Sector of a batch is handed out with the count of its changed bytes, or refused with 5, which leaves zeros in its own 2,352 bytes
   pub handed_out_or_cleared : (i : ℕ) → i < n
@@ -50,5 +48,5 @@ pub alone : {n m : ℕ} {r old q older : List ℕ} {f g : List SectorFate} {s t 
     → (fate_at i f ≡ fate_at j g) × (sector_at i s ≡ sector_at j t)
 alone {r = r} {old = old} {f = f} {s = s} p q i j h k e =
     let this = subst (λ (x : List ℕ). Repairs x (sector_at i old) (say_at i f) (sector_at i s)) e ((when_done p).each i h) in
-    let same = as_single_call q j k (sector_at i old) (room p i h) (fate_at i f).repaired (sector_at i s) this in
-    (λ d. record { repaired = same.0 d }, same.1)
+    let same = as_single_call q j k (sector_at i old) (room p i h) (fate_at i f) (sector_at i s) this in
+    same

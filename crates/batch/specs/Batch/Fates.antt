@@ -5,8 +5,7 @@ use Rattle.std.proofs.Common.{sym, ap, ◌∙◌, inl, inr, arith, length-append
 use Rattle.std.proofs.lemmas.List.{length-replicate, get_or-replicate}
 use Rattle.std.proofs.Math.ListN.{get_or-append, get_or-eq_default}
 use Rattle.outcome.specs.First.Found.{lt-or-le}
-use Rattle.batch.specs.declared.SectorFate.{SectorFate}
-use Rattle.batch.specs.Batch.{no_sector, fate_at}
+use Rattle.batch.specs.Batch.{SectorFate, no_sector, fate_at}
 
 abbrev pub sixteen : List SectorFate → List SectorFate
 sixteen f = take 16 (f ++ replicate 16 no_sector)

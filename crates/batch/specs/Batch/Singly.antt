@@ -7,10 +7,9 @@ use Rattle.outcome.specs.Say.{Say, done}
 use Rattle.outcome.specs.Say.Refusals.{cleared-right}
 use Rattle.repair.specs.Repair as single
 use Rattle.repair.specs.Repair.{Repairs}
-use Rattle.batch.specs.declared.SectorFate.{SectorFate}
 use Rattle.batch.specs.Sectors.{sector_at}
 use Rattle.batch.specs.Sectors.Apart.{sector_behind, sector_second}
-use Rattle.batch.specs.Batch.{no_sector, say_at, Taken, RepairsMany, taken}
+use Rattle.batch.specs.Batch.{SectorFate, no_sector, say_at, Taken, RepairsMany, taken}
 use Rattle.batch.specs.Batch.Alone.{when_done}
 use Rattle.batch.specs.Batch.Fates.{sixteen, length-sixteen, fate_sixteen}
 
@@ -19,7 +18,7 @@ use Rattle.batch.specs.Batch.Fates.{sixteen, length-sixteen, fate_sixteen}
 pub data Singly : List ℕ → List ℕ → List SectorFate → List ℕ → Type 0 where
   none : Singly [] [] [] []
   next : {r old s rs olds ss : List ℕ} {f : SectorFate} {fs : List SectorFate} → length r ≡ 2352 → length old ≡ 2352
-      → Repairs r old (single.say_of f.repaired) s → Singly rs olds fs ss → Singly (r ++ rs) (old ++ olds) (f ∷ fs) (s ++ ss)
+      → Repairs r old (single.say_of f) s → Singly rs olds fs ss → Singly (r ++ rs) (old ++ olds) (f ∷ fs) (s ++ ss)
 
 -- each Sector by itself, where there are as many as fates
 record ByEach (fs : List SectorFate) (r old s : List ℕ) : Type 0 where

@@ -6,10 +6,9 @@ use Rattle.std.proofs.Math.ListN.{get_or-append, get_or-eq_default}
 use Rattle.outcome.specs.First.Found.{lt-or-le}
 use Rattle.outcome.specs.Say.{done}
 use Rattle.repair.specs.Repair.{Repairs}
-use Rattle.batch.specs.declared.SectorFate.{SectorFate}
 use Rattle.batch.specs.Sectors.{sector_at}
 use Rattle.batch.specs.Sectors.Apart.{sector_first, sector_second, row_from, length-row, sector_row}
-use Rattle.batch.specs.Batch.{no_sector, fate_at, say_at, Taken, RepairsMany, taken}
+use Rattle.batch.specs.Batch.{SectorFate, no_sector, fate_at, say_at, Taken, RepairsMany, taken}
 use Rattle.batch.specs.Batch.Alone.{when_done}
 use Rattle.batch.specs.Batch.Fates.{sixteen, length-sixteen, fate_sixteen}
 

@@ -1,9 +1,9 @@
 -- How many Sectors a length is.
 -- Assumes nothing.
-use Rattle.std.specs.Prelude.{◌≡◌, List, ℕ}
+use Rattle.std.specs.Prelude.{◌≡◌, List, ℕ, Option, Some, None}
 use Rattle.batch.specs.Sectors.{Sectors}
 
--- n is how many Sectors r is, or 0 where it is not 1 to 16
-pub record Counted (r : List ℕ) (n : ℕ) : Type 0 where
-  pub so_many : (n ≡ 0 → ⊥) → Sectors n r
-  pub none : n ≡ 0 → (m : ℕ) → Sectors m r → ⊥
+-- how many Sectors r is, where it is 1 to 16
+pub record Counted (r : List ℕ) (count : Option ℕ) : Type 0 where
+  pub so_many : (n : ℕ) → count ≡ Some n → Sectors n r
+  pub none : count ≡ None → (m : ℕ) → Sectors m r → ⊥

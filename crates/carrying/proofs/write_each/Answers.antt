@@ -31,17 +31,11 @@ overflow_add-to c = omega (arith, c.requires.0.sixteen)
 pub slice_bounds-write-count-in-loop-i : goal.slice_bounds-write-count-in-loop-i
 slice_bounds-write-count-in-loop-i c = omega (arith, c.requires.0.sixteen)
 
-pub overflow_add-i : goal.overflow_add-i
-overflow_add-i c = omega arith
-
-pub loop-i-smaller : goal.loop-i-smaller
-loop-i-smaller c = omega arith
-
 pub loop-i-preserved : goal.loop-i-preserved
 loop-i-preserved c =
     let pre = c.requires in
     writing_more pre.0 pre.2 pre.3 c.loop-i.invariant c.loop-i-test.true _ c.write.ensures (search rules)
-    c.following-next.result c.following-next.ensures
+    c.following-time.result c.following-time.ensures
 
 pub shape_of-out : goal.shape_of-out
 shape_of-out c = c.loop-i.invariant.as_long ∙ sym c.requires.1

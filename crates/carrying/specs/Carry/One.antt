@@ -1,6 +1,6 @@
 -- Two outcomes that the promise of carrying over allows coincide: the answer and the buffer.
 -- Assumes nothing.
-use Rattle.std.specs.Prelude.{◌≡◌, refl, cond, List, ℕ, ◌*◌, eqb, replicate}
+use Rattle.std.specs.Prelude.{◌≡◌, refl, ⊤, cond, List, ℕ, ◌*◌, Result, Ok, Err, eqb, replicate}
 use Rattle.std.proofs.Common.{sym, ap, subst, ◌∙◌, arith}
 use Rattle.outcome.specs.Say.{Say, done, refused}
 use Rattle.outcome.specs.Say.Refusals.{never}
@@ -8,8 +8,8 @@ use Rattle.address.specs.declared.HeaderTime.{HeaderTime}
 use Rattle.modes.specs.Modes.{is_written}
 use Rattle.writer.specs.Write.One.{asked-one}
 use Rattle.batch.specs.Sectors.Apart.{sectors_same}
-use Rattle.carrying.specs.declared.Carrying.{Carrying}
-use Rattle.carrying.specs.declared.Carrying.TheVariants.{Done, WrongIncoming, WrongOutgoing, WrongIdentification, WrongEdc, ReservedBit, WrongAddress, PastTheEnd}
+use Rattle.carrying.specs.declared.CarryError.{CarryError}
+use Rattle.carrying.specs.declared.CarryError.TheVariants.{WrongIncoming, WrongOutgoing, WrongIdentification, WrongEdc, ReservedBit, WrongAddress, PastTheEnd}
 use Rattle.carrying.specs.Carry.{DataFrames, says, Carried, Carries, wrong_incoming, wrong-outgoing, refuses, carries, say_of}
 
 count_one : {k j : ℕ} {w : List ℕ} → DataFrames k w → DataFrames j w → k ≡ j
@@ -41,24 +41,24 @@ carry_one {w} {start} (carries g l e c) (refuses h m f) = never (sym f ∙ ap (�
 carry_one {w} {start} (carries {new = s} g l e c) (carries {new = t} h m f d) =
     (refl, carried_one c (subst (λ (x : ℕ). Carried x w start t) (count_one h g) d))
 
-answer : Say → Carrying
-answer (done vs) = Done
+answer : Say → Result ⊤ CarryError
+answer (done vs) = Ok _
 answer (refused n vs) =
-    cond (eqb n 1) WrongIncoming
+    Err (cond (eqb n 1) WrongIncoming
     (cond (eqb n 2) WrongOutgoing
-    (cond (eqb n 28) WrongIdentification (cond (eqb n 29) WrongEdc (cond (eqb n 30) ReservedBit (cond (eqb n 4) WrongAddress PastTheEnd)))))
+    (cond (eqb n 28) WrongIdentification (cond (eqb n 29) WrongEdc (cond (eqb n 30) ReservedBit (cond (eqb n 4) WrongAddress PastTheEnd))))))
 
-told : (a : Carrying) → answer (say_of a) ≡ a
+told : (a : Result ⊤ CarryError) → answer (say_of a) ≡ a
 unfolding answer
-told Done = refl
-told WrongIncoming = refl
-told WrongOutgoing = refl
-told WrongIdentification = refl
-told WrongEdc = refl
-told ReservedBit = refl
-told WrongAddress = refl
-told PastTheEnd = refl
+told (Ok w) = refl
+told (Err WrongIncoming) = refl
+told (Err WrongOutgoing) = refl
+told (Err WrongIdentification) = refl
+told (Err WrongEdc) = refl
+told (Err ReservedBit) = refl
+told (Err WrongAddress) = refl
+told (Err PastTheEnd) = refl
 
-pub carrying_one : {w : List ℕ} {start : HeaderTime} {old : List ℕ} (a b : Carrying) {s t : List ℕ} → Carries w start old (say_of a) s
+pub carrying_one : {w : List ℕ} {start : HeaderTime} {old : List ℕ} (a b : Result ⊤ CarryError) {s t : List ℕ} → Carries w start old (say_of a) s
     → Carries w start old (say_of b) t → (a ≡ b) × (s ≡ t)
 carrying_one a b p q = let e = carry_one p q in (sym (told a) ∙ ap answer e.0 ∙ told b, e.1)

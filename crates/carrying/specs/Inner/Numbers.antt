@@ -1,9 +1,9 @@
 -- How many frames a length is.
 -- Assumes nothing.
-use Rattle.std.specs.Prelude.{◌≡◌, List, ℕ}
+use Rattle.std.specs.Prelude.{List, ℕ, Option}
+use Rattle.std.specs.Option.{MatchOption}
 use Rattle.carrying.specs.Carry.{DataFrames}
 
--- n is how many frames w is, or 0 where it is not 1 to 16
-pub record Counted (w : List ℕ) (n : ℕ) : Type 0 where
-  pub so_many : (n ≡ 0 → ⊥) → DataFrames n w
-  pub none : n ≡ 0 → (m : ℕ) → DataFrames m w → ⊥
+-- the number of frames in w, or none where it is not 1 to 16
+abbrev pub Counted : List ℕ → Option ℕ → Type 0
+Counted w n = MatchOption n ((m : ℕ) → DataFrames m w → ⊥) (λ m. DataFrames m w)

@@ -26,9 +26,6 @@ bounds-bytes-i c = omega (arith, (words_long c.loop-i.invariant).0)
 pub bounds-marks-i : goal.bounds-marks-i
 bounds-marks-i c = omega (arith, (words_long c.loop-i.invariant).1)
 
-pub loop-i-smaller : goal.loop-i-smaller
-loop-i-smaller c = omega arith
-
 pub loop-i-preserved : goal.loop-i-preserved
 loop-i-preserved c =
     let l = c.loop-i-test.true in

@@ -1,16 +1,14 @@
 -- A frame without a Sync Header is lost: every byte of it is 0, every mark 4, and no other frame has that mark.
 -- Assumes nothing.
-use Rattle.std.specs.Prelude.{◌≡◌, refl, Bool, true, false, cond, List, ℕ, eqb}
-use Rattle.words.specs.declared.Symbol.{Symbol}
-use Rattle.words.specs.declared.Symbol.TheVariants.{Byte, Unknown}
+use Rattle.std.specs.Prelude.{◌≡◌, refl, Bool, true, false, cond, List, ℕ, eqb, Option, Some, None}
 use Rattle.words.specs.Words.{byte_of, sync0, sync1}
 use Rattle.word_marks.specs.Marks.{mark_for}
 use Rattle.channel_frame.specs.ChannelFrame.{headless, word_read, word_mark, frame_byte, frame_mark}
 
 -- no word has mark 4
-not-four : (s : Symbol) (w i : ℕ) → eqb (mark_for s w i) 4 ≡ false
-not-four (Byte b) w i = refl
-not-four Unknown w i = go (eqb i 0) (eqb w sync0) (eqb w sync1)
+not-four : (s : Option ℕ) (w i : ℕ) → eqb (mark_for s w i) 4 ≡ false
+not-four (Some b) w i = refl
+not-four None w i = go (eqb i 0) (eqb w sync0) (eqb w sync1)
   where
     go : (p q r : Bool) → eqb (cond p (cond q 2 (cond r 3 1)) 1) 4 ≡ false
     go true true r = refl

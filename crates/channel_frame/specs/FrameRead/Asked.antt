@@ -1,6 +1,6 @@
 -- A frame of a Section for which there is room, in the table of Annex D: it is read where its Sync Header stands, to the bytes and marks of its words.
 -- Assumes nothing.
-use Rattle.std.specs.Prelude.{◌≡◌, List, ℕ, ◌<◌, length}
+use Rattle.std.specs.Prelude.{◌≡◌, List, ℕ, ◌<◌, length, Option}
 use Rattle.std.proofs.Math.Path.{ap}
 use Rattle.std.proofs.Common.{◌∙◌, eq-eqb, lt-ltb}
 use Rattle.outcome.specs.Table.{tabulated}
@@ -9,7 +9,6 @@ use Rattle.bits.specs.Bits.{unpack}
 use Rattle.words.specs.Words.{words, byte_of}
 use Rattle.words.specs.LookUp.{Guide, looked_up}
 use Rattle.words.specs.LookUp.Finds.{looked_up_lem}
-use Rattle.words.specs.declared.Symbol.{Symbol}
 use Rattle.word_marks.specs.Marks.{byte_for, mark_for}
 use Rattle.channel_frame.specs.ChannelFrame.{headless, word_read, word_byte, word_mark}
 use Rattle.channel_frame.specs.FrameRead.{missed, word_bytes, word_marks}
@@ -36,4 +35,4 @@ module _ (ws g : List ℕ) (is : ws ≡ words) (guide : Guide g) where
     unfolding word_marks
     marks_of_words_lem =
         tabulated-same (λ i. mark_for (looked_up ws g (word_read bits f i)) (word_read bits f i) i) (word_mark bits f) 33
-        (λ i _. ap (λ (s : Symbol). mark_for s (word_read bits f i) i) (found (word_read bits f i)))
+        (λ i _. ap (λ (s : Option ℕ). mark_for s (word_read bits f i) i) (found (word_read bits f i)))

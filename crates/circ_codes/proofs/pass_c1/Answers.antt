@@ -1,21 +1,7 @@
--- `circ_codes::pass_c1` meets its contract: the treated word, its front in front of its mark for each byte (`passes_c1`).
+-- `circ_codes::pass_c1` meets its contract (`passes_c1`).
 -- Assumes nothing.
-use mathlib.Core.Path.{◌≡◌, sym, ◌∙◌}
-use native.Mathlib.Omega.{arith}
-use lib.ListN.{length, take}
-use lib.Seq.{length-take-le}
-use Rattle.outcome.specs.Buffer.Lengths.{same_lengths}
 use Rattle.circ_codes.proofs.Passing.{passes_c1}
-use borrow.Author.Rules.{rules}
 use Rattle.circ_codes.proofs.pass_c1.Goals as goal
 
-pub slice_bounds-copy-end : goal.slice_bounds-copy-end
-slice_bounds-copy-end c = sym (length-take-le 32 c.args.rows (search rules))
-
 pub returns : goal.returns
-returns c =
-    let rows = c.args.rows in
-    passes_c1 rows _ c.treat-mark.new.word _ _ (let long : length c.args.rows ≡ 64 = search rules in long)
-    (same_lengths c.copy.result (length (take 32 rows)) 32 _ (take 32 rows) _ c.copy.ensures (length-take-le 32 rows (omega (arith, (let long : length c.args.rows ≡ 64 = search rules in long)))))
-    c.treat-mark.ensures
-    (same_lengths c.copy-2.result (length c.front.result) 28 _ c.front.result _ c.copy-2.ensures (search rules) ∙ c.front.ensures)
+returns c = passes_c1 c.args.rows c.pass.result c.pass.ensures

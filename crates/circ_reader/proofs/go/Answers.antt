@@ -6,14 +6,7 @@ use Rattle.rings.specs.Rings.{waits}
 use Rattle.circ.specs.Rows.{reader_before_c1, reader_between, reader_after_c2}
 use Rattle.circ.specs.Rings.{reader_waits}
 use Rattle.circ_reader.proofs.Decoded.{gone}
-use borrow.Author.Rules.{rules}
 use Rattle.circ_reader.proofs.go.Goals as goal
-
-pub hand_out-requires : goal.hand_out-requires
-hand_out-requires c = (
-  search rules,
-  c.requires.outgoing,
-)
 
 pub returns : goal.returns
 unfolding reader_before_c1 reader_between reader_after_c2 reader_waits waits

@@ -8,7 +8,7 @@ use Rattle.circ_reader.proofs.hand_out.Goals as goal
 
 pub returns : goal.returns
 returns c = (
-  c.answer_by.ensures,
+  c.surety_of.ensures,
   same_lengths c.copy.result (length c.collect-f1.result) (length c.args.out.now) _ c.collect-f1.result _ c.copy.ensures
       (ap length c.collect-f1.ensures ∙ omega (arith, c.requires.1))
       ∙ c.collect-f1.ensures,

@@ -1,7 +1,6 @@
 -- A reader's step where all lengths and all places are right.
 -- Assumes nothing.
-use Rattle.std.specs.Prelude.{ℕ, ◌≡◌, true, List, [], ◌∷◌, length}
-use Rattle.outcome.specs.Say.{Say, done}
+use Rattle.std.specs.Prelude.{ℕ, ◌≡◌, true, List, length}
 use Rattle.rings.specs.Rings.{waits, below, onward, unrolled_all}
 use Rattle.circ.specs.Marked.{marked_out, marked_doubt, marked_next}
 use Rattle.circ.specs.Rings.{reader_waits, marked_waits, shared}
@@ -13,8 +12,8 @@ pub record ReaderAsks (places frame marks out : List ℕ) : Type 0 where
   pub in_place : below (waits reader_waits) places ≡ true
 
 -- x is the frame with its marks behind it
-pub record ReaderGone (places store x places' store' : List ℕ) (say : Say) (out : List ℕ) : Type 0 where
+pub record ReaderGone (places store x places' store' : List ℕ) (mark : ℕ) (out : List ℕ) : Type 0 where
   pub places_are : places' ≡ onward (waits reader_waits) places
   pub line_is : unrolled_all marked_waits (shared places') store' ≡ marked_next (unrolled_all marked_waits (shared places) store) x
-  pub say_is : say ≡ done (marked_doubt (unrolled_all marked_waits (shared places) store) x ∷ [])
+  pub mark_is : mark ≡ marked_doubt (unrolled_all marked_waits (shared places) store) x
   pub out_is : out ≡ marked_out (unrolled_all marked_waits (shared places) store) x

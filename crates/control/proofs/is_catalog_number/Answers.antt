@@ -1,18 +1,21 @@
--- `control::is_catalog_number` meets its contract: what is left of the number decides for all of it (`Digits`).
+-- `control::is_catalog_number` meets its contract: the digits decide place by place (`Digits`).
 -- Assumes nothing.
-use mathlib.Core.Path.{refl, sym, ◌∙◌}
-use native.Mathlib.Omega.{arith}
-use Rattle.control.proofs.Digits.{digit-right, digit-wrong, digits-over}
+use Rattle.std.specs.Prelude.{◌≡◌, refl}
+use Rattle.std.specs.List.{list_all, range_with_len}
+use Rattle.std.proofs.Common.{sym, ◌∙◌, rules, tests}
+use Rattle.std.proofs.lemmas.Iterator.{YieldsList-from_range}
+use Rattle.std.proofs.lemmas.Iterator.Search.{all_from_yields_List}
+use Rattle.control.proofs.Digits.{decimal_at, by_place}
 use Rattle.control.proofs.is_catalog_number.Goals as goal
 
-pub loop-i-init : goal.loop-i-init
-loop-i-init c = (omega arith, refl)
+pub returns-then-all : goal.returns-then-all
+returns-then-all c =
+    let all : c.all.result ≡ list_all (decimal_at c.args.n) (range_with_len 0 13)
+    = all_from_yields_List (decimal_at c.args.n) _ _ c.all.result c.all.ensures.ran (YieldsList-from_range 0 13 13 refl refl) (λ x b q k. search (rules, tests)) in
+    sym (by_place c.args.n ∙ simp (sym all ∙ c.if-all.true))
 
-pub returns-then-rest-ge10 : goal.returns-then-rest-ge10
-returns-then-rest-ge10 c = sym (c.loop-i.invariant.1 ∙ digit-wrong _ _ c.loop-i-test.true c.if-rest-ge10.true)
-
-pub loop-i-preserved : goal.loop-i-preserved
-loop-i-preserved c = (omega arith, c.loop-i.invariant.1 ∙ digit-right _ _ c.loop-i-test.true c.if-rest-ge10.false)
-
-pub returns : goal.returns
-returns c = sym (c.loop-i.invariant.1 ∙ digits-over _ _ c.loop-i-test.false)
+pub returns-else-all : goal.returns-else-all
+returns-else-all c =
+    let all : c.all.result ≡ list_all (decimal_at c.args.n) (range_with_len 0 13)
+    = all_from_yields_List (decimal_at c.args.n) _ _ c.all.result c.all.ensures.ran (YieldsList-from_range 0 13 13 refl refl) (λ x b q k. search (rules, tests)) in
+    c.if-all.false ∙ sym (by_place c.args.n ∙ simp (sym all ∙ c.if-all.false))

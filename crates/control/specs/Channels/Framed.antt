@@ -2,6 +2,7 @@
 -- Assumes nothing.
 use Rattle.std.specs.Prelude.{◌≡◌, refl, Bool, true, false, List, [], ◌∷◌, ◌++◌, ℕ, zero, suc, ◌+◌, ◌*◌, ◌<◌, length, get_or}
 use Rattle.std.proofs.Common.{sym, ap, ap₂, subst, ◌∙◌, not-suc-le-zero, le_of_suc-le-suc, arith, length-append}
+use mir.Val.{bool_byte}
 use Rattle.bits.proofs.Bits.Packed.{length-unpack}
 use Rattle.bits.specs.Binary.{Binary}
 use Rattle.bits.specs.Binary.Parts.{binary_append, binary_unpack}
@@ -32,6 +33,11 @@ length_q f =
 pub p_lt : (flag : Bool) → p_bit flag < 2
 p_lt true = omega arith
 p_lt false = omega arith
+
+-- it is what the flag converts to
+pub p_bit_is : {p : ℕ} (flag : Bool) → p ≡ bool_byte flag → p ≡ p_bit flag
+p_bit_is true e = e
+p_bit_is false e = e
 
 -- ---- bytes
 

@@ -13,10 +13,10 @@ use Rattle.control.specs.declared.QData.{QData}
 use Rattle.control.specs.declared.QData.TheVariants.{UserData, LeadOut, LeadIn, CatalogNumber}
 use Rattle.control.specs.declared.Control.{Control}
 use Rattle.control.specs.Fields.{track_number, decimal_digits, allowed_item, allowed_data, allowed}
-use Rattle.control.specs.Channels.{control_field, q_mode, item_fields}
+use Rattle.control.specs.Channels.{control_field, copying_of, q_mode, item_fields}
 use Rattle.control.specs.FieldBytes.{catalog_bytes, data_bytes, field_bytes}
 use Rattle.control.specs.Inner.Small.{both, track_lt, mode_lt}
-use Rattle.control_fields.specs.Found.{copying_in, item_in, digits_in, data_in, fields_in}
+use Rattle.control_fields.specs.Found.{item_in, digits_in, data_in, fields_in}
 
 -- ---- a Catalog Number
 
@@ -79,7 +79,7 @@ data_back flag (LeadIn item r) first h =
 data_back flag (CatalogNumber c frac) first h =
     ap (λ (x : ℕ). CatalogNumber x frac) (digits-back c frac first (both (decimal_digits 13 c) (two_digits 74 frac) h).0)
 
-copying_back : (c : Copying) → copying_in (control_field c) ≡ c
+copying_back : (c : Copying) → copying_of (control_field c) ≡ c
 copying_back Forbidden = refl
 copying_back Permitted = refl
 
@@ -91,6 +91,6 @@ fields_found f h =
     let l = mode_lt f.q_data in
     let p : (c * 16 + m) / 16 ≡ c = omega arith in
     let q : (c * 16 + m) % 16 ≡ m = omega arith in
-    let copying = ap copying_in p ∙ copying_back f.copying in
+    let copying = ap copying_of p ∙ copying_back f.copying in
     let data' = ap (λ (x : ℕ). data_in x ((c * 16 + m) ∷ data_bytes f.q_data)) q ∙ data_back f.flag f.q_data (c * 16 + m) h in
     λ i. record { flag = f.flag; copying = copying i; q_data = data' i }

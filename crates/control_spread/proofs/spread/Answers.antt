@@ -9,7 +9,7 @@ use Rattle.outcome.specs.Buffer.Filled.{filling-none, filling_more, filling_all}
 use Rattle.bits.specs.Bits.{unpack}
 use Rattle.bits.proofs.Bits.Packed.{length-unpack}
 use Rattle.control.specs.Channels.{p_bit, framed}
-use Rattle.control.specs.Channels.Framed.{length-framed, p_lt}
+use Rattle.control.specs.Channels.Framed.{length-framed, p_bit_is, p_lt}
 use Rattle.control_spread.proofs.QBits.{spread_at}
 use Rattle.control_spread.proofs.spread.Goals as goal
 
@@ -19,11 +19,11 @@ loop-k-init c =
     filling-none _ (framed (p_bit args.flag) (unpack args.bytes))
     (omega (arith, (let twelve : length c.args.bytes ≡ 12 = search rules in twelve), length-framed (p_bit args.flag) (unpack args.bytes), length-unpack args.bytes, length-replicate {A = ℕ} 96 0))
 
-pub overflow_mul-out : goal.overflow_mul-out
-overflow_mul-out c = omega (arith, c.p_bit-p.ensures, p_lt c.args.flag)
+pub overflow_mul-byte : goal.overflow_mul-byte
+overflow_mul-byte c = omega (arith, p_bit_is c.args.flag c.from-p.ensures, p_lt c.args.flag)
 
-pub overflow_add-out : goal.overflow_add-out
-overflow_add-out c = omega (arith, c.bit.ensures, c.p_bit-p.ensures, p_lt c.args.flag)
+pub overflow_add-byte : goal.overflow_add-byte
+overflow_add-byte c = omega (arith, c.bit.ensures, p_bit_is c.args.flag c.from-p.ensures, p_lt c.args.flag)
 
 pub loop-k-preserved : goal.loop-k-preserved
 loop-k-preserved c =
@@ -32,7 +32,7 @@ loop-k-preserved c =
     let k = c.loop-k.k in
     let room : k < 8 * length args.bytes = omega (arith, (let twelve : length c.args.bytes ≡ 12 = search rules in twelve)) in
     filling_more f _ (omega (arith, length-framed (p_bit args.flag) (unpack args.bytes), length-unpack args.bytes))
-    (ap₂ (λ (p q : ℕ). p * 128 + q * 64) c.p_bit-p.ensures c.bit.ensures ∙ spread_at args.bytes k room (p_bit args.flag))
+    (ap₂ (λ (p q : ℕ). p * 128 + q * 64) (p_bit_is c.args.flag c.from-p.ensures) c.bit.ensures ∙ spread_at args.bytes k room (p_bit args.flag))
 
 pub returns : goal.returns
 returns c =

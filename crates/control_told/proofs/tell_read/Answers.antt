@@ -1,7 +1,7 @@
 -- `control_told::tell_read` meets its contract: each arm is a case of `say_of`, told.
 -- Assumes nothing.
-use mathlib.Core.Path.{refl}
+use mathlib.Core.Path.{◌∙◌, ap}
 use Rattle.control_told.proofs.tell_read.Goals as goal
 
-pub returns-in-Read : goal.returns-in-Read
-returns-in-Read c = rw c.in-Read.is (record { has_number = refl; has_values = c.values_of.ensures })
+pub returns-in-Ok : goal.returns-in-Ok
+returns-in-Ok c = rw c.in-Ok.is (record { has_number = c.tell.ensures.0; has_values = c.tell.ensures.1 ∙ c.values_of.ensures })

@@ -1,9 +1,6 @@
 -- `control_writer::write_control` meets its contract: each way out is a law of `WaysOut`; the bytes are those of the fields (`control_coded`).
 -- Assumes nothing.
-use mathlib.Core.Path.{◌≡◌, sym, ap, ◌∙◌}
-use borrow.Author.Rules.{rules}
-use lib.ListN.{length}
-use Rattle.outcome.specs.Buffer.Lengths.{same_lengths}
+use mathlib.Core.Path.{sym, ap, ◌∙◌}
 use Rattle.control.specs.Channels.{p_bit, framed}
 use Rattle.control.specs.FieldBytes.{field_bytes}
 use Rattle.control_writer.specs.Inner.Coded.{control_coded}
@@ -17,16 +14,13 @@ pub returns-then-not-is_allowed : goal.returns-then-not-is_allowed
 returns-then-not-is_allowed c =
     on_fields c.args.fields _ c.if-out-ne96.false _
     (sym c.is_allowed.ensures ∙ c.if-not-is_allowed.true)
-    c.clear.ensures
+    (c.fill.ensures.after (λ y e. e))
 
 pub returns : goal.returns
 unfolding field_bytes
 returns c =
     let f = c.args.fields in
-    let spread = c.spread-made in
-    let l = c.if-out-ne96.false in
-    let long : length spread.result ≡ 96 = search rules in
-    on_done f _ l _
+    on_done f _ c.if-out-ne96.false _
     (sym c.is_allowed.ensures ∙ c.if-not-is_allowed.false)
-    (same_lengths _ _ _ _ _ _ c.copy.ensures (long ∙ sym l)
-    ∙ spread.ensures ∙ ap (framed (p_bit f.flag)) c.q_bytes-q.ensures ∙ control_coded f)
+    (c.copy_from_slice.ensures.after
+    ∙ c.spread.ensures ∙ ap (framed (p_bit f.flag)) c.q_bytes-q.ensures ∙ control_coded f)

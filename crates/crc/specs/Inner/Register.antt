@@ -1,8 +1,8 @@
 -- The division with the remainder's sixteen coefficients as a number, that of the highest power the most significant bit.
 -- Assumes nothing.
-use Rattle.std.specs.Prelude.{◌≡◌, List, [], ◌∷◌, ◌++◌, replicate, take, drop, get_or}
+use Rattle.std.specs.Prelude.{◌≡◌, List, [], ◌∷◌, ◌++◌, replicate, drop}
 use Rattle.std.proofs.Math.Path.{refl, ap, ap₂}
-use Rattle.std.proofs.Common.{sym, ◌∙◌, add-one, take-suc}
+use Rattle.std.proofs.Common.{sym, ◌∙◌}
 use Prim.Native.Nat.{ℕ, zero, suc, ◌+◌, ◌*◌, ◌/◌, ◌%◌, ◌^◌, ◌<◌}
 use Rattle.std.proofs.Math.Nat.{suc_inj}
 use native.Mathlib.Omega.{arith}
@@ -106,14 +106,16 @@ divided-steps r (c ∷ cs) s h =
 
 -- ---- a byte a turn
 
--- one byte more of a list is taken in
-pub byte_more : (s : List ℕ) (i r r' : ℕ) → i < length s → r ≡ steps 0 (unpack (take i s)) → r' ≡ steps r (bits_of 8 (get_or s i 0)) → r' ≡ steps 0 (unpack (take (i + 1) s))
+-- one byte more behind a list is taken in
+pub byte_more : (s : List ℕ) (b r r' : ℕ) → r ≡ steps 0 (unpack s) → r' ≡ steps r (bits_of 8 b) → r' ≡ steps 0 (unpack (s ++ (b ∷ [])))
 unfolding unpack
-byte_more s i r r' l e f =
-    let b : List ℕ = bits_of 8 (get_or s i 0) in
-    let t : take (i + 1) s ≡ take i s ++ (get_or s i 0 ∷ []) = rw add-one (take-suc s i 0 l) in
-    let u : unpack (take (i + 1) s) ≡ unpack (take i s) ++ b = ap unpack t ∙ unpack-append (take i s) (get_or s i 0 ∷ []) in
-    f ∙ ap (λ (n : ℕ). steps n b) e ∙ sym (steps-append 0 (unpack (take i s)) b) ∙ ap (steps 0) (sym u)
+byte_more s b r r' e f =
+    let u : unpack (s ++ (b ∷ [])) ≡ unpack s ++ bits_of 8 b = unpack-append s (b ∷ []) in
+    f ∙ ap (λ (n : ℕ). steps n (bits_of 8 b)) e ∙ sym (steps-append 0 (unpack s) (bits_of 8 b)) ∙ ap (steps 0) (sym u)
+
+pub no_bytes : 0 ≡ steps 0 (unpack [])
+unfolding steps unpack
+no_bytes = refl
 
 -- two bytes (00) are sixteen 0
 pub two-zeros : (x y z : ℕ) → y ≡ steps x (bits_of 8 0) → z ≡ steps y (bits_of 8 0) → z ≡ steps x (replicate 16 0)

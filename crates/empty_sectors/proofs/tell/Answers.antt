@@ -5,8 +5,7 @@ use Rattle.empty_sectors.proofs.Turning.{sayable}
 use Rattle.empty_sectors.proofs.tell.Goals as goal
 
 pub say-requires : goal.say-requires
-say-requires g c = sayable c.args.sector.now _ c.find-found.result _ c.requires c.find-found.ensures c.in_default.is refl
+say-requires g c = sayable c.args.sector.now _ c.find.result _ c.requires c.find.ensures c.in-Some.is c.address_line-line.ensures
 
-pub say-requires-2 : goal.say-requires-2
-say-requires-2 g c =
-    sayable c.args.sector.now _ c.find-found.result _ c.requires c.find-found.ensures c.in-Empty.is c.address_line-line.ensures
+pub say-requires-in-None : goal.say-requires-in-None
+say-requires-in-None g c = sayable c.args.sector.now _ c.find.result _ c.requires c.find.ensures c.in-None.is refl

@@ -4,5 +4,5 @@ use Rattle.std.proofs.Common.{rules}
 use Rattle.empty_sectors.proofs.Turning.{stopped}
 use Rattle.empty_sectors.proofs.turn.Goals as goal
 
-pub returns-in_default : goal.returns-in_default
-returns-in_default g c = stopped _ c.fill-filled.result c.requires c.fill-filled.ensures (search rules)
+pub returns-then-is_some : goal.returns-then-is_some
+returns-then-is_some g c = stopped _ c.fill-filled.result c.requires c.fill-filled.ensures (search rules)

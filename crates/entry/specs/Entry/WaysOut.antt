@@ -1,12 +1,12 @@
 -- What an entry does on each of its ways, and that its promise determines the answer.
 -- Assumes nothing.
-use Rattle.std.specs.Prelude.{◌≡◌, refl, Bool, true, false, List, [], ℕ, eqb, length, replicate}
+use Rattle.std.specs.Prelude.{◌≡◌, refl, ⊤, Bool, true, false, List, [], ℕ, Result, Ok, Err, eqb, length, replicate}
 use Rattle.std.proofs.Common.{sym, ap, ◌∙◌}
 use borrow.Author.Tests.{eq-eqb, ne_eqb, eqb-true, eqb-false}
 use Rattle.outcome.specs.Say.{done, refused, cleared, Outcome, outcome, answered}
 use Rattle.outcome.specs.Say.Refusals.{cleared-right}
-use Rattle.entry.specs.declared.Answer.{Answer}
-use Rattle.entry.specs.declared.Answer.TheVariants.{Done, WrongIncoming, WrongOutgoing}
+use Rattle.entry.specs.declared.EntryError.{EntryError}
+use Rattle.entry.specs.declared.EntryError.TheVariants.{WrongIncoming, WrongOutgoing}
 use Rattle.entry.specs.Entry.{say_of, says, answering}
 
 module _ (make : List ℕ → List ℕ) (incoming old : List ℕ) where
@@ -56,19 +56,19 @@ blind f s a b ha hb = by (eqb (length s) 2352) refl
         ∙ on_incoming f s b (replicate 2352 0) l (sym (cleared-right 2352 b hb))
 
 -- an answer is known by its number
-pub say_of-one : (a b : Answer) → say_of a ≡ say_of b → a ≡ b
-say_of-one Done Done e = refl
-say_of-one Done WrongIncoming e = cc
-say_of-one Done WrongOutgoing e = cc
-say_of-one WrongIncoming Done e = cc
-say_of-one WrongIncoming WrongIncoming e = refl
-say_of-one WrongIncoming WrongOutgoing e = cc
-say_of-one WrongOutgoing Done e = cc
-say_of-one WrongOutgoing WrongIncoming e = cc
-say_of-one WrongOutgoing WrongOutgoing e = refl
+pub say_of-one : (a b : Result ⊤ EntryError) → say_of a ≡ say_of b → a ≡ b
+say_of-one (Ok v) (Ok w) e = refl
+say_of-one (Ok v) (Err WrongIncoming) e = cc
+say_of-one (Ok v) (Err WrongOutgoing) e = cc
+say_of-one (Err WrongIncoming) (Ok w) e = cc
+say_of-one (Err WrongIncoming) (Err WrongIncoming) e = refl
+say_of-one (Err WrongIncoming) (Err WrongOutgoing) e = cc
+say_of-one (Err WrongOutgoing) (Ok w) e = cc
+say_of-one (Err WrongOutgoing) (Err WrongIncoming) e = cc
+say_of-one (Err WrongOutgoing) (Err WrongOutgoing) e = refl
 
 -- two outcomes that a promise allows coincide
-pub outcome-one : (m : Outcome) (a b : Answer) (x y : List ℕ) → outcome (say_of a) x ≡ m → outcome (say_of b) y ≡ m → (a ≡ b) × (x ≡ y)
+pub outcome-one : (m : Outcome) (a b : Result ⊤ EntryError) (x y : List ℕ) → outcome (say_of a) x ≡ m → outcome (say_of b) y ≡ m → (a ≡ b) × (x ≡ y)
 outcome-one m a b x y p q =
     let e : outcome (say_of a) x ≡ outcome (say_of b) y = p ∙ sym q in
     (say_of-one a b (ap (λ (o : Outcome). o.say) e), ap (λ (o : Outcome). o.out) e)

@@ -6,10 +6,9 @@ use Rattle.outcome.specs.Say.{done}
 use Rattle.sector.specs.Layout.{zeros}
 use Rattle.sector.specs.Layout.Zeros.{length-zeros}
 use Rattle.repair.specs.Repair.Blind.{refilled}
-use Rattle.batch.specs.declared.SectorFate.{SectorFate}
 use Rattle.batch.specs.Sectors.{sector_at}
 use Rattle.batch.specs.Sectors.Apart.{length_sector}
-use Rattle.batch.specs.Batch.{say_at, RepairsMany}
+use Rattle.batch.specs.Batch.{SectorFate, say_at, RepairsMany}
 use Rattle.batch.specs.Batch.Alone.{when_done}
 use Rattle.fate.specs.Fated.{fate_from, Fated}
 

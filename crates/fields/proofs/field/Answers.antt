@@ -7,13 +7,15 @@ use native.Mathlib.Omega.{arith}
 use lib.Pow.{pow_pos}
 use Rattle.fields.specs.Packed.Read.{read_three, read_short, read_long}
 use Rattle.fields.proofs.Unit.{unit_is}
+use Rattle.fields.proofs.field.Goals.{then-i-packed-via-then-i-packed, then-i-packed-via-else-i-packed+then-n-j}
 use Rattle.fields.proofs.field.Goals as goal
 
 pub returns-then-i-packed : goal.returns-then-i-packed
-returns-then-i-packed c = (read_short _ _ _ c.if-i-packed.true, pow_pos c.args.n)
-
-pub returns-then-n-j : goal.returns-then-n-j
-returns-then-n-j c = (read_long _ _ _ c.if-i-packed.false c.if-n-j.true, pow_pos c.args.n)
+returns-then-i-packed c =
+    elim c.then-i-packed.branch [
+      | then-i-packed-via-then-i-packed w ↦ (read_short _ _ _ w.if-i-packed.true, pow_pos c.args.n)
+      | then-i-packed-via-else-i-packed+then-n-j w ↦ (read_long _ _ _ w.if-i-packed.false w.if-n-j.true, pow_pos c.args.n)
+    ]
 
 pub nonzero_rem-result : goal.nonzero_rem-result
 nonzero_rem-result c =

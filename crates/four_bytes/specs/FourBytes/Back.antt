@@ -1,7 +1,8 @@
 -- Four bytes packed into a number are its bytes, and so are the four bytes from a place on.
 -- Assumes nothing.
-use Rattle.std.specs.Prelude.{◌≡◌, List, [], ◌∷◌, ℕ, ◌+◌, ◌*◌, ◌/◌, ◌%◌, ◌<◌, ◌≤◌, length, get_or, take, drop}
-use Rattle.std.proofs.Common.{sym, ap, ◌∙◌, add-suc, add-one, arith, le-leb, drop-cons}
+use Rattle.std.specs.Prelude.{◌≡◌, List, [], ◌∷◌, ℕ, ◌+◌, ◌*◌, ◌/◌, ◌%◌, ◌-◌, ◌<◌, ◌≤◌, length, get_or, take, drop}
+use Rattle.std.proofs.Common.{sym, ap, ◌∙◌, add-suc, add-zero, add-one, arith, le-leb, drop-cons, take_all, length-drop}
+use Rattle.std.proofs.lemmas.List.{get_or-drop}
 use Rattle.std.proofs.lemmas.Bool.{lt-leb}
 use Rattle.outcome.specs.Bytes.{Bytes}
 use Rattle.outcome.specs.Bytes.Kept.{bytes_nil, bytes_cons}
@@ -45,6 +46,14 @@ module _ (w : List ℕ) (i : ℕ) where
   pub number_here : {r : ℕ} → i + 4 ≤ length w → r ≡ get_or w i 0 + get_or w (i + 1) 0 * 256 + get_or w (i + 2) 0 * 65536 + get_or w (i + 3) 0 * 16777216
       → r ≡ number_at w i
   number_here l e = e ∙ ap number_of (sym (four-at w i l)) ∙ sym (number-within l)
+
+  -- the same of the bytes from i on, as a slice of their own
+  pub number_rest : {rest : List ℕ} {r : ℕ} → rest ≡ take (length w - i) (drop i w) → length rest + i ≡ length w → 4 ≤ length rest
+      → r ≡ get_or rest 0 0 + get_or rest 1 0 * 256 + get_or rest 2 0 * 65536 + get_or rest 3 0 * 16777216 → r ≡ number_at w i
+  number_rest {rest} q l h e =
+      let all : rest ≡ drop i w = q ∙ take_all (length w - i) (drop i w) (omega (arith, length-drop i w)) in
+      number_here (omega arith)
+      (rw (all, get_or-drop i w 0 0, add-zero, get_or-drop i w 1 0, get_or-drop i w 2 0, get_or-drop i w 3 0) at e)
 
   pub bytes_there : Bytes w → i + 4 ≤ length w → four_of (number_at w i) ≡ take 4 (drop i w)
   bytes_there h l =

@@ -3,12 +3,13 @@
 use mathlib.Core.Path.{◌∙◌}
 use native.Mathlib.Omega.{arith}
 use Rattle.frame_edc.proofs.Passed.{taken_more}
-use Rattle.frame_edc.proofs.Digits.{edc-digits}
+use Rattle.frame_edc.proofs.Digits.{digits-given, edc-digits}
 use Rattle.frame_edc.proofs.parity.Goals as goal
 
 pub returns : goal.returns
 returns c =
-    edc-digits _ c.take_byte-r.result (omega arith)
-    (c.take_byte-r.ensures
+    c.to_be_bytes.ensures ∙ digits-given c.take_byte.result (omega arith)
+    ∙ edc-digits _ c.take_byte.result (omega arith)
+    (c.take_byte.ensures
     ∙ taken_more _ _ 0
     (c.take_byte-three.ensures ∙ taken_more _ _ 0 (c.take_byte-two.ensures ∙ taken_more _ _ 0 (c.take_byte-one.ensures ∙ taken_more _ _ 0 c.divide.ensures))))

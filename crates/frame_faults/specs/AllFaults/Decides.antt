@@ -2,7 +2,8 @@
 -- Assumes nothing.
 use Rattle.std.specs.Prelude.{◌≡◌, refl, Bool, true, false, List, [], ℕ, zero, suc, take, drop, get_or}
 use Rattle.std.proofs.Common.{sym, ap, ◌∙◌, arith}
-use Rattle.outcome.specs.Say.{Say, done, demand}
+use Rattle.outcome.specs.Say.{Say, done, refused, demand}
+use Rattle.outcome.specs.Say.Refusals.{never}
 use Rattle.codeword.specs.Nearest.{is_codeword}
 use Rattle.division.specs.Polynomial.{is_zero}
 use Rattle.frame_edc.specs.FrameEdc.{remainder}
@@ -40,7 +41,25 @@ three-number true true false rest e = refl
 three-number true false u rest e = refl
 three-number false q u rest e = refl
 
+-- a refusal of three demands stays where what stands behind them is refused so too
+three-refused : (p q u : Bool) (s t : Say) {n : ℕ} {v : List ℕ} → three p q u s ≡ refused n v → (s ≡ refused n v → t ≡ refused n v) → three p q u t ≡ refused n v
+three-refused true true true s t e h = h e
+three-refused true true false s t e h = e
+three-refused true false u s t e h = e
+three-refused false q u s t e h = e
+
+-- and where three demands are done, so is what stands behind them
+three-done : (p q u : Bool) (s : Say) {v : List ℕ} → three p q u s ≡ done v → s ≡ done v
+three-done true true true s e = e
+three-done true true false s e = never e
+three-done true false u s e = never e
+three-done false q u s e = never e
+
 module _ (f : List ℕ) where
+  -- a frame that is refused is so whatever stands behind it
+  pub refused-frame : (s t : Say) {n : ℕ} {v : List ℕ} → faults f s ≡ refused n v → (s ≡ refused n v → t ≡ refused n v) → faults f t ≡ refused n v
+  refused-frame = three-refused (is_codeword 2 (take 6 f)) (is_zero (remainder f)) (reserved_are_zero (get_or f 0 0))
+
   pub clean_frame : number_of (faults f (done [])) ≡ 0 → (rest : Say) → faults f rest ≡ rest
   clean_frame = three-none (is_codeword 2 (take 6 f)) (is_zero (remainder f)) (reserved_are_zero (get_or f 0 0))
 
@@ -86,3 +105,16 @@ all_faulty (suc k) w e rest = by (number_of (faults (take 2064 w) (done []))) re
         let h : number_of (faults (take 2064 w) (done [])) ≡ 0 → ⊥ = λ z. omega arith in
         faulty_frame (take 2064 w) h (all_faults k (drop 2064 w) rest)
         ∙ ap refusal_of (sym (faulty_number (take 2064 w) (all_faults k (drop 2064 w) (done [])) h))
+
+-- what frames are refused for they are refused for whatever stands behind them
+pub all_refused : (k : ℕ) (w : List ℕ) (rest : Say) {n : ℕ} {v : List ℕ} → all_faults k w (done []) ≡ refused n v → all_faults k w rest ≡ refused n v
+all_refused zero w rest e = never (sym e)
+all_refused (suc k) w rest e =
+    refused-frame (take 2064 w) (all_faults k (drop 2064 w) (done [])) (all_faults k (drop 2064 w) rest) e (all_refused k (drop 2064 w) rest)
+
+-- where frames are done, so is what stands behind them
+pub all_done : (k : ℕ) (w : List ℕ) (rest : Say) {v : List ℕ} → all_faults k w rest ≡ done v → rest ≡ done v
+all_done zero w rest e = e
+all_done (suc k) w rest e =
+    all_done k (drop 2064 w) rest
+    (three-done (is_codeword 2 (take 6 (take 2064 w))) (is_zero (remainder (take 2064 w))) (reserved_are_zero (get_or (take 2064 w) 0 0)) (all_faults k (drop 2064 w) rest) e)

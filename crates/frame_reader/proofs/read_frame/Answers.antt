@@ -22,5 +22,5 @@ returns-then-not-reserved_are_zero c = search ways
 pub returns : goal.returns
 returns c =
     on_done _ _ _ c.if-frame-ne2064.false c.if-main-ne2048.false _ c.is_identified.ensures (ap not c.if-not-is_identified.false) _
-    c.holds.ensures (ap not c.if-not-holds.false) _ c.reserved_are_zero.ensures (ap not c.if-not-reserved_are_zero.false) _ c.copy.ensures
+    c.holds.ensures (ap not c.if-not-holds.false) _ c.reserved_are_zero.ensures (ap not c.if-not-reserved_are_zero.false) c.copy_from_slice.ensures.after
     c.fields_of.result c.fields_of.ensures

@@ -12,15 +12,6 @@ use Rattle.gathering.proofs.gather_all.Goals as goal
 pub loop-m-init : goal.loop-m-init
 loop-m-init c = filling-none _ _ (c.requires.1 ∙ sym (length-rows c.args.s.now))
 
-pub overflow_mul-at : goal.overflow_mul-at
-overflow_mul-at c = omega arith
-
-pub overflow_add-at : goal.overflow_add-at
-overflow_add-at c = omega arith
-
-pub slice_bounds-gather_row-count : goal.slice_bounds-gather_row-count
-slice_bounds-gather_row-count c = omega arith
-
 pub gather_row-requires : goal.gather_row-requires
 gather_row-requires c =
     let m = c.loop-m.m in
@@ -35,12 +26,6 @@ gather_row-requires c =
         c.requires.1,
       ),
     )
-
-pub overflow_add-m : goal.overflow_add-m
-overflow_add-m c = omega arith
-
-pub loop-m-smaller : goal.loop-m-smaller
-loop-m-smaller c = omega arith
 
 pub loop-m-preserved : goal.loop-m-preserved
 loop-m-preserved c =

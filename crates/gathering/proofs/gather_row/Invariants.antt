@@ -1,11 +1,7 @@
 -- `gathering::gather_row` meets its contract. The loop's invariant: the bytes of d codewords of each half are there (`Gathering`).
 -- Assumes nothing.
-use Prim.Native.Nat.{◌-◌}
 use Rattle.gathering.proofs.Gathering.{Gathering}
 use Rattle.gathering.proofs.gather_row.Given as goal
 
 abbrev pub invariant-loop-d : goal.invariant-loop-d
 invariant-loop-d l = Gathering l.s l.initial.row l.m l.d l.word l.row
-
-abbrev pub decreases-loop-d : goal.decreases-loop-d
-decreases-loop-d l = 26 - l.d

@@ -13,7 +13,7 @@ unfolding after_header
 returns-then-is_light c =
     let t = c.args.t in
     let e : light t ≡ true = sym c.is_light.ensures ∙ c.if-is_light.true in
-    rw (e, c.spend-tally.ensures, spent_header t (light-room t e))
+    rw (e, c.spend.ensures, spent_header t (light-room t e))
 
 pub returns : goal.returns
 unfolding after_header

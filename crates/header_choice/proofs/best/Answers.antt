@@ -11,9 +11,9 @@ use Rattle.header_choice.proofs.best.Goals as goal
 pub returns : goal.returns
 returns c =
     let t = c.args.t in
-    let both : better_of (record { bits = 4; after = record { run = c.header_after_one-first.result; tally = c.spend-x.result } }) (record { bits = 0; after = record { run = c.header_after_zeros-second.result; tally = c.spend-y.result } })
+    let both : better_of (record { bits = 4; after = record { run = c.header_after_one.result; tally = c.spend.result } }) (record { bits = 0; after = record { run = c.header_after_zeros.result; tally = c.spend-2.result } })
     ≡ better_of (with_one t) (with_zeros t)
     = λ i.
-    better_of (record { bits = 4; after = record { run = c.header_after_one-first.ensures i; tally = c.spend-x.ensures i } })
-    (record { bits = 0; after = record { run = c.header_after_zeros-second.ensures i; tally = c.spend-y.ensures i } }) in
+    better_of (record { bits = 4; after = record { run = c.header_after_one.ensures i; tally = c.spend.ensures i } })
+    (record { bits = 0; after = record { run = c.header_after_zeros.ensures i; tally = c.spend-2.ensures i } }) in
     subst (λ (z : Choice). HeaderStands t z (before_next_header t)) (sym (c.better_of.ensures ∙ both)) (header_chosen t c.requires)

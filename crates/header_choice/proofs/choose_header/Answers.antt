@@ -16,7 +16,7 @@ unfolding tail_choice
 returns-then-is_fit c =
     let t = c.args.t in
     let e : fits t ≡ true = sym c.is_fit.ensures ∙ c.if-is_fit.true in
-    rw e (tail_chosen t c.best-c.result _ (fits_fit t e) c.best-c.ensures c.merged-after.ensures)
+    rw e (tail_chosen t c.best-c.result _ (fits_fit t e) c.best-c.ensures c.merged.ensures)
 
 pub returns : goal.returns
 unfolding tail_choice

@@ -12,11 +12,11 @@ returns-then-not-holds c = search ways01
 pub returns-then-not-intermediate_right : goal.returns-then-not-intermediate_right
 returns-then-not-intermediate_right c = search ways01
 
-pub returns-then-p-lt86 : goal.returns-then-p-lt86
-returns-then-p-lt86 c = search ways01
+pub returns-in-Some : goal.returns-in-Some
+returns-in-Some c = search ways01
 
-pub returns-then-q-lt52 : goal.returns-then-q-lt52
-returns-then-q-lt52 c = search ways01
+pub returns-in-Some-first_failing : goal.returns-in-Some-first_failing
+returns-in-Some-first_failing c = search ways01
 
 pub returns : goal.returns
 returns c = search ways01

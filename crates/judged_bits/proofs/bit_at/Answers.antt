@@ -13,7 +13,7 @@ returns-then-q-lt16 c = (bit-before c.args.channel.now c.args.q c.if-q-lt16.true
 pub returns-then-i-channel : goal.returns-then-i-channel
 returns-then-i-channel c =
     let q = c.args.q in
-    (ap (λ (x : ℕ). x / 2 ^ (7 - (q - 16) % 8) % 2) c.wide-x.ensures ∙ bit_in c.args.channel.now q c.if-q-lt16.false c.if-i-channel.true, omega arith)
+    (ap (λ (x : ℕ). x / 2 ^ (7 - (q - 16) % 8) % 2) c.from.ensures ∙ bit_in c.args.channel.now q c.if-q-lt16.false c.if-i-channel.true, omega arith)
 
 pub returns-then-behind-ge3 : goal.returns-then-behind-ge3
 returns-then-behind-ge3 c =

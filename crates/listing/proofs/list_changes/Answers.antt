@@ -20,21 +20,9 @@ returns-then-list-ne9408 c = search ways
 pub loop-i-init : goal.loop-i-init
 loop-i-init c = grown-none _ _ _ (c.clear.ensures ∙ ap (λ (k : ℕ). replicate k 0) c.if-list-ne9408.false)
 
-pub bounds-before-i : goal.bounds-before-i
-bounds-before-i c = omega (arith, c.if-before-ne2352.false)
-
-pub bounds-after-i : goal.bounds-after-i
-bounds-after-i c = omega (arith, c.if-after-ne2352.false)
-
 pub note-n-requires : goal.note-n-requires
 note-n-requires c =
     (omega (arith, grown_long c.loop-i.invariant, c.loop-i.invariant.few), omega arith)
-
-pub overflow_add-i : goal.overflow_add-i
-overflow_add-i c = omega arith
-
-pub loop-i-smaller : goal.loop-i-smaller
-loop-i-smaller c = omega arith
 
 pub loop-i-preserved : goal.loop-i-preserved
 loop-i-preserved c =

@@ -1,12 +1,8 @@
 -- `listing::list_changes` meets its contract. The loop's invariant: the changes among the first i bytes are listed, and zeros are behind
 -- (`Grown`).
 -- Assumes nothing.
-use Prim.Native.Nat.{◌-◌}
 use Rattle.listing.proofs.Growing.{Grown}
 use Rattle.listing.proofs.list_changes.Given as goal
 
 abbrev pub invariant-loop-i : goal.invariant-loop-i
 invariant-loop-i l = Grown l.before l.after l.n l.i l.list
-
-abbrev pub decreases-loop-i : goal.decreases-loop-i
-decreases-loop-i l = 2352 - l.i

@@ -1,12 +1,7 @@
 -- `lost_errors::add_errors` meets its contract: the errors of the first i places are added (`Adding`).
 -- Assumes nothing.
-use Prim.Native.Nat.{◌-◌}
-use lib.ListN.{length}
 use Rattle.lost_errors.proofs.Adding.{Adding}
 use Rattle.lost_errors.proofs.add_errors.Given as goal
 
 abbrev pub invariant-loop-i : goal.invariant-loop-i
 invariant-loop-i l = Adding l.marks l.s l.initial.word l.i l.word
-
-abbrev pub decreases-loop-i : goal.decreases-loop-i
-decreases-loop-i l = length l.marks - l.i

@@ -5,7 +5,8 @@ use mathlib.Core.Path.{sym, ◌∙◌}
 use native.Mathlib.Omega.{arith}
 use lib.ListN.{length, length-set}
 use Rattle.erasures.specs.Errors.{others}
-use Rattle.lost_errors.proofs.Sweep.{turned_none, turned-kept, turned_lost, turned_error}
+use Rattle.lost_errors.proofs.Sweep.{other_self, other_kept, turned_none, turned-kept, turned_lost, turned_error}
+use Rattle.lost_errors.proofs.error_at.Goals.{else-i-p-via-then-i-p+else-marks-i-ne0, else-i-p-via-else-i-p}
 use Rattle.lost_errors.proofs.error_at.Goals as goal
 
 pub overflow_sub-marks : goal.overflow_sub-marks
@@ -19,19 +20,18 @@ loop-i-init c =
     let a = c.args in
     turned_none (others a.marks.now a.p) a.s _ (length a.marks.now) (sym (length-set a.marks.now a.p 0))
 
-pub other_mark-requires : goal.other_mark-requires
-other_mark-requires c =
-    let a = c.args in
-    omega (arith, c.loop-i.invariant.upto, length-set a.marks.now a.p 0, c.loop-i-test.true)
-
-pub loop-i-preserved-then-other_mark-ne0 : goal.loop-i-preserved-then-other_mark-ne0
-loop-i-preserved-then-other_mark-ne0 c =
+pub loop-i-preserved-then-marks-i-ne0 : goal.loop-i-preserved-then-marks-i-ne0
+loop-i-preserved-then-marks-i-ne0 c =
     turned_lost c.loop-i.invariant c.loop-i-test.true _ c.times_alpha-x.ensures
-    (λ z. c.if-other_mark-ne0.true (c.other_mark.ensures ∙ z)) _ _ c.twisted_by-t.ensures c.product-f.ensures
+    (λ z. c.if-marks-i-ne0.true (sym (other_kept c.args.marks.now _ _ c.if-i-p.true) ∙ z)) _ _ c.twisted_by-t.ensures c.product-f.ensures
 
 pub loop-i-preserved : goal.loop-i-preserved
 loop-i-preserved c =
-    turned-kept c.loop-i.invariant c.loop-i-test.true _ c.times_alpha-x.ensures (sym c.other_mark.ensures ∙ c.if-other_mark-ne0.false)
+    turned-kept c.loop-i.invariant c.loop-i-test.true _ c.times_alpha-x.ensures
+    (elim c.else-i-p.branch [
+      | else-i-p-via-then-i-p+else-marks-i-ne0 w ↦ other_kept c.args.marks.now _ _ w.if-i-p.true ∙ w.if-marks-i-ne0.false
+      | else-i-p-via-else-i-p w ↦ sym (other_self c.args.marks.now _ _ (omega (arith, c.loop-i.auto.i, c.loop-i-test.true)) w.if-i-p.false)
+    ])
 
 pub returns : goal.returns
 returns c =

@@ -7,6 +7,3 @@ use Rattle.lost_errors.proofs.error_at.Given as goal
 
 abbrev pub invariant-loop-i : goal.invariant-loop-i
 invariant-loop-i l = Turned (others l.marks l.p) l.initial.t l.y l.t l.f l.x l.i
-
-abbrev pub decreases-loop-i : goal.decreases-loop-i
-decreases-loop-i l = l.i

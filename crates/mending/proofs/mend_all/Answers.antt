@@ -15,19 +15,10 @@ pub overflow_cast-k : goal.overflow_cast-k
 overflow_cast-k c =
     omega (arith, c.requires.1.long_0, words-le c.args.parity)
 
-pub bounds-s0-k : goal.bounds-s0-k
-bounds-s0-k c = omega arith
-
 pub bounds-s1-k : goal.bounds-s1-k
 bounds-s1-k c =
     let sums = c.requires.1 in
     omega (arith, sums.long_0, sums.long_1)
-
-pub overflow_add-k : goal.overflow_add-k
-overflow_add-k c = omega arith
-
-pub loop-k-smaller : goal.loop-k-smaller
-loop-k-smaller c = omega arith
 
 pub loop-k-preserved : goal.loop-k-preserved
 loop-k-preserved c =

@@ -11,13 +11,13 @@ pub loop-i-init : goal.loop-i-init
 loop-i-init c =
     filling-none _ _ (c.requires.1 ∙ sym (length_exchanged c.args.from.now))
 
-pub slice_bounds-copy-end-in-loop-i : goal.slice_bounds-copy-end-in-loop-i
-slice_bounds-copy-end-in-loop-i c = omega (arith, filling_long c.loop-i.invariant)
+pub slice_bounds-copy_from_slice-end-in-loop-i : goal.slice_bounds-copy_from_slice-end-in-loop-i
+slice_bounds-copy_from_slice-end-in-loop-i c = omega (arith, filling_long c.loop-i.invariant)
 
 pub loop-i-preserved : goal.loop-i-preserved
 loop-i-preserved c =
-    frame_more c.args.out.now c.args.from.now c.loop-i.out c.copy.new.to c.exchanged_frame-frame.result c.loop-i.i
-    c.copy.result c.loop-i.invariant c.requires.0 (omega arith) c.exchanged_frame-frame.ensures c.copy.ensures
+    frame_more c.args.out.now c.args.from.now c.loop-i.out _ c.exchanged_frame.result c.loop-i.i
+    c.loop-i.invariant c.requires.0 (omega arith) c.exchanged_frame.ensures c.copy_from_slice.ensures.after
 
 pub shape_of-out : goal.shape_of-out
 shape_of-out c = filling_long c.loop-i.invariant

@@ -4,4 +4,4 @@ use Rattle.report_lines.proofs.Steps.{said}
 use Rattle.report_lines.proofs.say.Goals as goal
 
 pub returns : goal.returns
-returns g c = said _ c.args.next c.after_line.result c.print.result c.requires.1 c.after_line.ensures
+returns g c = said _ c.args.next c.after_line.result c.print.result c.requires c.after_line.ensures

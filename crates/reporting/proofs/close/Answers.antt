@@ -7,8 +7,8 @@ use Rattle.reporting.proofs.Ends.{ended_there, ended_well}
 use Rattle.reporting.proofs.Steps.{reach}
 use Rattle.reporting.proofs.close.Goals as goal
 
-pub returns-in_default-reached : goal.returns-in_default-reached
-returns-in_default-reached g c =
+pub returns-in_default-stand : goal.returns-in_default-stand
+returns-in_default-stand g c =
     ended_there c.tail-tailed.result (subst (λ (x : Stand). Reached x c.args.run.counts) c.in-AtEnd.is c.requires.reached)
     c.tail-tailed.ensures (search rules)
 

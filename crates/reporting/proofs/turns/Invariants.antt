@@ -7,9 +7,9 @@ use Rattle.report_stand.specs.Standing.{is_over}
 use Rattle.report_run.specs.Run.{Turning}
 use Rattle.reporting.proofs.turns.Given as goal
 
-abbrev pub invariant-loop-sectors : goal.invariant-loop-sectors
-invariant-loop-sectors g l =
-    (l.sectors ≤ largest) × Turning l.sectors l.progress × (is_over l.progress.stand ≡ false) × (length l.received ≡ 37632) × (length l.out ≡ 37632)
+abbrev pub invariant-loop-progress : goal.invariant-loop-progress
+invariant-loop-progress g l =
+    (l.progress.counts.sectors ≤ largest) × Turning l.progress.counts.sectors l.progress × (is_over l.progress.stand ≡ false) × (length l.received ≡ 37632) × (length l.out ≡ 37632)
 
-abbrev pub decreases-loop-sectors : goal.decreases-loop-sectors
-decreases-loop-sectors g l = largest - l.sectors
+abbrev pub decreases-loop-progress : goal.decreases-loop-progress
+decreases-loop-progress g l = largest - l.progress.counts.sectors

@@ -9,8 +9,8 @@ returns-then-list-gt98304 c = search on_long
 pub returns-then-capture-ne65536 : goal.returns-then-capture-ne65536
 returns-then-capture-ne65536 c = search on_room
 
-pub put_counts-found-requires : goal.put_counts-found-requires
-put_counts-found-requires c = search is_ready
+pub put_counts-requires : goal.put_counts-requires
+put_counts-requires c = search is_ready
 
 pub returns-in_default : goal.returns-in_default
 returns-in_default c = search on_none

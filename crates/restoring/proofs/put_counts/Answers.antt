@@ -1,9 +1,9 @@
 -- `restoring::put_counts` meets its contract: the loop's invariant is `Reading`; its ways out are `on_malformed`, `on_many` and `on_end`.
 -- Assumes nothing.
-use Rattle.std.proofs.Common.{◌≡◌, ℕ, List, length, sym, ap, ◌∙◌, arith}
+use Rattle.std.specs.Prelude.{Option}
+use Rattle.std.proofs.Common.{◌≡◌, refl, ℕ, List, length, sym, ap, ◌∙◌, subst, arith}
 use lib.ListN.{length-replicate}
-use Rattle.restoring.specs.Inner.Read.{Ready}
-use Rattle.number_reader.specs.Leads.Says.{says-number, says_none}
+use Rattle.restoring.specs.Inner.Read.{Ready, Reads}
 use Rattle.restoring.proofs.Reading.{Reading, reading-none, reading_long, reading_on, reading-room, reading_more, on_malformed, on_many, on_end}
 use Rattle.restoring.proofs.put_counts.Goals as goal
 
@@ -14,13 +14,10 @@ as_long p r = reading_long r ∙ sym (ap length p.zeros ∙ length-replicate {A 
 pub loop-at-init : goal.loop-at-init
 loop-at-init c = search reading-none
 
-pub shape_of-capture-in_default : goal.shape_of-capture-in_default
-shape_of-capture-in_default c =
-    as_long c.requires c.loop-at.invariant
-
-pub returns-in_default : goal.returns-in_default
-returns-in_default c =
-    on_malformed c.loop-at.invariant c.loop-at-test.true (says_none _ _ _ c.number_at-leading.ensures c.in_default.is)
+pub returns-in_err-leading : goal.returns-in_err-leading
+returns-in_err-leading c =
+    subst (λ (r : Option ℕ). Reads c.args.list.now r c.loop-at.capture) (sym c.from_residual.ensures)
+    (on_malformed c.loop-at.invariant c.loop-at-test.true c.in_err-leading.ensures)
 
 pub shape_of-capture-then-used-eq65536 : goal.shape_of-capture-then-used-eq65536
 shape_of-capture-then-used-eq65536 c =
@@ -36,16 +33,16 @@ put_count-requires c = search reading-room
 -- what a number that stands in the list tells of the next place
 pub overflow_add-at : goal.overflow_add-at
 overflow_add-at c =
-    omega (arith, reading_on c.loop-at.invariant _ _ c.loop-at-test.true (says-number _ _ _ _ _ c.number_at-leading.ensures c.in-Number.is), c.requires.short)
+    omega (arith, reading_on c.loop-at.invariant _ _ c.loop-at-test.true c.in_ok-leading.ensures, c.requires.short)
 
 pub loop-at-smaller : goal.loop-at-smaller
 loop-at-smaller c =
-    omega (arith, reading_on c.loop-at.invariant _ _ c.loop-at-test.true (says-number _ _ _ _ _ c.number_at-leading.ensures c.in-Number.is))
+    omega (arith, reading_on c.loop-at.invariant _ _ c.loop-at-test.true c.in_ok-leading.ensures)
 
 pub loop-at-preserved : goal.loop-at-preserved
 loop-at-preserved c =
-    reading_more c.loop-at.invariant _ _ _ _ (says-number _ _ _ _ _ c.number_at-leading.ensures c.in-Number.is) c.if-used-eq65536.false
-    c.wrapping_add_u16-last.ensures.value c.put_count.ensures
+    reading_more c.loop-at.invariant _ _ _ _ c.in_ok-leading.ensures c.if-used-eq65536.false
+    refl c.put_count.ensures
 
 pub shape_of-capture : goal.shape_of-capture
 shape_of-capture c = as_long c.requires c.loop-at.invariant

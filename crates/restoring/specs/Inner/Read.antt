@@ -1,9 +1,7 @@
 -- The counts of a list put into a capture of zeros.
 -- Assumes nothing.
-use Rattle.std.specs.Prelude.{◌≡◌, ℕ, ◌≤◌, List, length, replicate}
+use Rattle.std.specs.Prelude.{◌≡◌, ℕ, ◌≤◌, Option, Some, None, List, length, replicate}
 use Rattle.captures.specs.Kept.{ListOf, capture_of, filled}
-use Rattle.restoring.specs.declared.Found.{Found}
-use Rattle.restoring.specs.declared.Found.TheVariants.{Capture, Nothing}
 
 pub record Ready (list capture : List ℕ) : Type 0 where
   pub short : length list ≤ 98304
@@ -21,6 +19,6 @@ pub record NoList (l new : List ℕ) : Type 0 where
   pub none : (ns : List ℕ) → ListOf ns l → ⊥
   pub long : length new ≡ 65536
 
-abbrev pub Reads : List ℕ → Found → List ℕ → Type 0
-Reads l (Capture used) new = Restored l used new
-Reads l Nothing new = NoList l new
+abbrev pub Reads : List ℕ → Option ℕ → List ℕ → Type 0
+Reads l (Some used) new = Restored l used new
+Reads l None new = NoList l new

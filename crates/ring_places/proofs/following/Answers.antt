@@ -1,27 +1,14 @@
--- `ring_places::following` meets its contract.
+-- `ring_places::following` meets its contract: the next place, or the first.
 -- Assumes nothing.
-use Prim.Native.Nat.{◌+◌}
-use mathlib.Core.Path.{sym, ap}
-use mathlib.Core.Bool.{Bool, cond}
 use native.Mathlib.Omega.{arith}
-use borrow.Author.Tests.{lt-ltb, le-ltb}
-use Rattle.rings.specs.Ring.{following}
+use Rattle.ring_places.proofs.Pairs.{next_place, first_place}
 use Rattle.ring_places.proofs.following.Goals as goal
 
-pub returns-then-d-p : goal.returns-then-d-p
-unfolding following
-returns-then-d-p c =
-    let a = c.args in
-    sym (ap (λ (b : Bool). cond b (a.p + 1) 0) (le-ltb (a.p + 1) a.d (omega arith)))
+pub returns-in-Some : goal.returns-in-Some
+returns-in-Some c = next_place c.args.d c.args.p c.in-Some.q (omega (arith, c.in-Some.ensures)) c.if-q-d.true
 
-pub returns-then-q-d : goal.returns-then-q-d
-unfolding following
-returns-then-q-d c =
-    let a = c.args in
-    sym (ap (λ (b : Bool). cond b (a.p + 1) 0) (le-ltb (a.p + 1) a.d (omega arith)))
+pub returns-in_default : goal.returns-in_default
+returns-in_default c = first_place c.args.d c.args.p (omega (arith, c.in-Some.ensures, c.if-q-d.false))
 
-pub returns : goal.returns
-unfolding following
-returns c =
-    let a = c.args in
-    sym (ap (λ (b : Bool). cond b (a.p + 1) 0) (lt-ltb (a.p + 1) a.d (omega arith)))
+pub returns-in_default-2 : goal.returns-in_default-2
+returns-in_default-2 c = first_place c.args.d c.args.p (omega (arith, c.in_default.ensures, c.ranges.d.fits))

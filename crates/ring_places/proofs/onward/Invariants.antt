@@ -1,6 +1,5 @@
 -- `ring_places::onward` meets its contract: the places that have gone on, and those that are left.
 -- Assumes nothing.
-use Prim.Native.Nat.{◌-◌}
 use mathlib.Core.Path.{◌≡◌}
 use mathlib.Core.List.{◌++◌}
 use lib.ListN.{length, take, drop}
@@ -8,7 +7,4 @@ use Rattle.rings.specs.Rings.{onward}
 use Rattle.ring_places.proofs.onward.Given as goal
 
 abbrev pub invariant-loop-k : goal.invariant-loop-k
-invariant-loop-k l = (l.rows ≡ length l.waits - (length l.waits - length l.initial.places)) × (length l.places ≡ length l.initial.places) × (onward l.waits l.initial.places ≡ take l.k l.places ++ onward (drop l.k l.waits) (drop l.k l.places))
-
-abbrev pub decreases-loop-k : goal.decreases-loop-k
-decreases-loop-k l = l.rows - l.k
+invariant-loop-k l = (length l.places ≡ length l.initial.places) × (onward l.waits l.initial.places ≡ take l.k l.places ++ onward (drop l.k l.waits) (drop l.k l.places))

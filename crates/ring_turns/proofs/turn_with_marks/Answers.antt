@@ -1,15 +1,8 @@
 -- `ring_turns::turn_with_marks` meets its contract: two turns, to which the front of the word and its rest are lent (`both_out_lem`, `both-next`).
 -- Assumes nothing.
-use mathlib.Core.Path.{sym}
-use native.Mathlib.Omega.{arith}
 use lib.ListN.{drop}
-use lib.Seq.{length-take-le}
 use Rattle.rings.specs.Swap.Marked.{both_out_lem, both-next}
 use Rattle.ring_turns.proofs.turn_with_marks.Goals as goal
-
-pub slice_bounds-turn-end-2 : goal.slice_bounds-turn-end-2
-slice_bounds-turn-end-2 c =
-    sym (length-take-le c.smaller-rows.result c.args.word.now (omega (arith, c.smaller-rows.ensures)))
 
 pub returns : goal.returns
 returns c =

@@ -5,5 +5,5 @@ use Rattle.scrambling.proofs.put_scrambled.Goals as goal
 
 pub returns : goal.returns
 returns c =
-    masked c.args.sector.now c.args.out.now c.copy.new.to c.worked_out-sequence.result c.add.new.to
-    c.copy.result c.add.result c.requires.0 c.requires.1 c.copy.ensures c.worked_out-sequence.ensures c.add.ensures
+    masked c.args.sector.now _ c.worked_out-sequence.result c.add.new.to
+    c.add.result c.requires.0 c.copy_from_slice.ensures.after c.worked_out-sequence.ensures c.add.ensures

@@ -31,7 +31,7 @@ within-near t w = simp (le-leb t.level 1 w.level_low, le-leb t.plus farthest w.p
 -- ---- each way out
 
 module _ (t : Tally) (frames control out : List ℕ) where
-  nothing : due t frames control out ≡ false → FramesLaid t frames control out out t
+  pub nothing : due t frames control out ≡ false → FramesLaid t frames control out out t
   nothing e = record { laid = λ d. absurd (true≢false (sym d ∙ e)); left = λ _. (refl, refl) }
 
   pub wrong_out : (length out ≡ 7203 → ⊥) → FramesLaid t frames control out out t

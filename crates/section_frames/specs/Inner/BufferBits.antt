@@ -18,11 +18,10 @@ pub record Held (pen : Pen) : Type 0 where
   pub fits : pen.held < 2 ^ pen.count
 
 -- n bits of v may be written
-pub record Room (out : List ℕ) (pen : Pen) (v n scale : ℕ) : Type 0 where
+pub record Room (out : List ℕ) (pen : Pen) (v n : ℕ) : Type 0 where
   pub held : Held pen
   pub small : v < 2 ^ n
   pub short : n ≤ 24
-  pub scale_is : scale ≡ 2 ^ n
   pub room : pen_place pen + n ≤ 8 * length out
 
 -- n bits of v are written

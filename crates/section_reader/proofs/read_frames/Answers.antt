@@ -2,7 +2,6 @@
 -- (`frames_more`).
 -- Assumes nothing.
 use mathlib.Core.Path.{sym, ◌∙◌}
-use native.Mathlib.Omega.{arith}
 use Rattle.section_reader.proofs.FramesRead.{frames_none, frames_long, frames_room, frames_more, frames_all}
 use Rattle.section_reader.proofs.read_frames.Goals as goal
 
@@ -11,8 +10,8 @@ loop-f-init c =
     let p = c.requires in
     frames_none _ _ _ p.1 p.2
 
-pub take_frame-f-requires : goal.take_frame-f-requires
-take_frame-f-requires c =
+pub take_frame-requires : goal.take_frame-requires
+take_frame-requires c =
     let room = frames_room c.loop-f.invariant c.loop-f-test.true in
     record {
       long = c.requires.0;
@@ -23,12 +22,9 @@ take_frame-f-requires c =
       room_marks = room.1;
     }
 
-pub loop-f-smaller : goal.loop-f-smaller
-loop-f-smaller c = omega (arith, c.take_frame-f.ensures.next_is, c.loop-f-test.true)
-
 pub loop-f-preserved : goal.loop-f-preserved
 loop-f-preserved c =
-    frames_more c.loop-f.invariant c.loop-f-test.true _ _ _ c.take_frame-f.ensures
+    frames_more c.loop-f.invariant c.loop-f-test.true _ _ c.take_frame.ensures
 
 pub shape_of-bytes : goal.shape_of-bytes
 shape_of-bytes c = (frames_long c.loop-f.invariant).0 ∙ sym c.requires.1

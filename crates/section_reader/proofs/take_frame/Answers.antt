@@ -9,4 +9,4 @@ returns-in_default c =
 
 pub returns : goal.returns
 returns c =
-    taken_read c.requires c.read_one.result c.read_one.ensures c.in-Read.is
+    taken_read c.requires c.read_one.result c.read_one.ensures c.in-Some.is

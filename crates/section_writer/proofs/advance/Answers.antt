@@ -17,10 +17,10 @@ returns c =
     let t = c.args.t in
     let p : t.plus < 2 ^ 60 = omega (arith, c.requires.0.plus_low) in
     let m : t.minus < 2 ^ 60 = omega (arith, c.requires.0.minus_low) in
-    let dsv : c.dsv_after-dsv.result ≡ sub_ℕ t.plus t.minus = c.dsv_after-dsv.ensures ∙ dsv-small t.plus t.minus p m in
+    let dsv : c.dsv_after.result ≡ sub_ℕ t.plus t.minus = c.dsv_after.ensures ∙ dsv-small t.plus t.minus p m in
     λ i.
     record {
       dsv = (ap (λ (x : ℤ). to_z w64 (of_z w64 x)) dsv ∙ to_z-of_z w64 (sub_ℕ t.plus t.minus) (sub-fits t.plus t.minus p m)) i;
-      level = (ap (λ (x : ℤ). to_z w64 (of_z w64 x)) c.level_after-level.ensures ∙ to_z-of_z w64 (level_then t.level) (then_fits t.level)) i;
+      level = (ap (λ (x : ℤ). to_z w64 (of_z w64 x)) c.level_after.ensures ∙ to_z-of_z w64 (level_then t.level) (then_fits t.level)) i;
       sections = c.args.sections + 1;
     }

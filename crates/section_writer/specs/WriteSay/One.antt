@@ -1,30 +1,30 @@
 -- ONE: two outcomes of a write that the promise of `SectionWriter::write` allows are the same: the answer, the next state and every outgoing byte.
 -- Assumes nothing.
-use Rattle.std.specs.Prelude.{◌≡◌, refl, cond, List, ℕ, eqb}
+use Rattle.std.specs.Prelude.{◌≡◌, refl, ⊤, cond, List, ℕ, Result, Ok, Err, eqb}
 use Rattle.std.proofs.Common.{sym, ap, ◌∙◌}
 use Rattle.outcome.specs.Say.{Say, done, refused}
 use Rattle.calls.specs.Step.{Step, step}
 use Rattle.section_writer.specs.declared.SectionStep.{SectionStep}
 use Rattle.section_writer.specs.declared.SectionWriter.{SectionWriter}
-use Rattle.section_writer.specs.declared.SectionWritten.{SectionWritten}
-use Rattle.section_writer.specs.declared.SectionWritten.TheVariants.{Done, WrongIncoming, WrongOutgoing, ImpossibleState, DiscFull}
+use Rattle.section_writer.specs.declared.WriteSectionError.{WriteSectionError}
+use Rattle.section_writer.specs.declared.WriteSectionError.TheVariants.{WrongIncoming, WrongOutgoing, ImpossibleState, DiscFull}
 use Rattle.section_writer.specs.WriteSay.{say_of, written}
 
 -- the answer that says so
-answer : Say → SectionWritten
-answer (done vs) = Done
-answer (refused n vs) = cond (eqb n 1) WrongIncoming (cond (eqb n 2) WrongOutgoing (cond (eqb n 7) DiscFull ImpossibleState))
+answer : Say → Result ⊤ WriteSectionError
+answer (done vs) = Ok tt
+answer (refused n vs) = Err (cond (eqb n 1) WrongIncoming (cond (eqb n 2) WrongOutgoing (cond (eqb n 7) DiscFull ImpossibleState)))
 
-told : (a : SectionWritten) → answer (say_of a) ≡ a
+told : (a : Result ⊤ WriteSectionError) → answer (say_of a) ≡ a
 unfolding answer
-told Done = refl
-told WrongIncoming = refl
-told WrongOutgoing = refl
-told ImpossibleState = refl
-told DiscFull = refl
+told (Ok w) = refl
+told (Err WrongIncoming) = refl
+told (Err WrongOutgoing) = refl
+told (Err ImpossibleState) = refl
+told (Err DiscFull) = refl
 
 -- an answer is told by what it says
-pub says-one : (a b : SectionWritten) → say_of a ≡ say_of b → a ≡ b
+pub says-one : (a b : Result ⊤ WriteSectionError) → say_of a ≡ say_of b → a ≡ b
 says-one a b e = sym (told a) ∙ ap answer e ∙ told b
 
 -- what a call hands back, and what its buffer then holds

@@ -1,7 +1,7 @@
 -- THERE AND BACK: what `write` makes of 98 frames and 96 Control bytes `read_section` turns back into the same bytes, with marks 2 and 3 at the two
 -- SYNCs and 0 elsewhere.
 -- Assumes nothing.
-use Rattle.std.specs.Prelude.{◌≡◌, true, List, ℕ, ◌/◌, ◌%◌, ◌<◌, length}
+use Rattle.std.specs.Prelude.{◌≡◌, true, List, ℕ, ◌/◌, ◌%◌, ◌<◌, length, Option, None}
 use Rattle.std.proofs.Common.{sym, ◌∙◌, subst, arith}
 use Rattle.std.proofs.Math.Path.{ap}
 use borrow.Author.Tests.{eq-eqb, lt-ltb}
@@ -9,8 +9,6 @@ use Rattle.outcome.specs.Bytes.{Bytes}
 use Rattle.outcome.specs.Table.Entries.{tabulated-same}
 use Rattle.bits.specs.Bits.{unpack, pack}
 use Rattle.bits.proofs.Bits.Packed.{unpack-pack, length-pack}
-use Rattle.words.specs.declared.Symbol.{Symbol}
-use Rattle.words.specs.declared.Symbol.TheVariants.{Unknown}
 use Rattle.words.specs.Words.Different.{byte_of_word, sync0_unknown, sync1_unknown}
 use Rattle.words.specs.Words.{word_of, byte_of, sync0, sync1}
 use Rattle.bits.specs.Binary.{Binary}
@@ -38,9 +36,9 @@ module _ (frames control : List ℕ) (hf : Bytes frames) (hc : Bytes control) wh
   mark-back : (f i : ℕ) → mark_for (byte_of (word_at frames control f i)) (word_at frames control f i) i ≡ laid_mark f i
   mark-back f i =
       at_word frames control hf hc (λ w m. mark_for (byte_of w) w i ≡ m) f i _ _ (λ _. 0)
-      (λ z. ap (λ (x : Symbol). mark_for x sync0 i) sync0_unknown ∙ ap (mark_for Unknown sync0) z)
-      (λ z. ap (λ (x : Symbol). mark_for x sync1 i) sync1_unknown ∙ ap (mark_for Unknown sync1) z)
-      (λ x h. ap (λ (t : Symbol). mark_for t (word_of x) i) (byte_of_word x h))
+      (λ z. ap (λ (x : Option ℕ). mark_for x sync0 i) sync0_unknown ∙ ap (mark_for None sync0) z)
+      (λ z. ap (λ (x : Option ℕ). mark_for x sync1 i) sync1_unknown ∙ ap (mark_for None sync1) z)
+      (λ x h. ap (λ (t : Option ℕ). mark_for t (word_of x) i) (byte_of_word x h))
 
   module _ (s : SectionWriter) where
     -- the bytes that a reader finds in the bits of a Section

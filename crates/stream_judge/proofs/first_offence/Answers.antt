@@ -14,20 +14,9 @@ pub search_from-requires : goal.search_from-requires
 search_from-requires c = (
   c.requires.0,
   c.requires.2,
-  c.calm_until-calm.ensures.0,
-  none_before c.args.channel.now _ _ _ c.calm_until-calm.ensures.1 c.listed_until-listed.ensures.1 (omega arith) (omega (arith, c.if-calm-listed.true)),
-)
-
-pub returns-then-calm-listed : goal.returns-then-calm-listed
-returns-then-calm-listed c = c.search_from.ensures
-
-pub search_from-requires-2 : goal.search_from-requires-2
-search_from-requires-2 c = (
-  c.requires.0,
-  c.requires.2,
-  c.listed_until-listed.ensures.0,
-  none_before c.args.channel.now _ _ _ c.calm_until-calm.ensures.1 c.listed_until-listed.ensures.1 c.if-calm-listed.false (omega arith),
+  omega (arith, c.min.ensures, c.calm_until-calm.ensures.0),
+  none_before c.args.channel.now _ _ _ c.calm_until-calm.ensures.1 c.listed_until-listed.ensures.1 (omega (arith, c.min.ensures)) (omega (arith, c.min.ensures)),
 )
 
 pub returns : goal.returns
-returns c = c.search_from-2.ensures
+returns c = c.search_from.ensures

@@ -1,25 +1,36 @@
 -- `judge_sections` meets its contract: each way out is a law of `Passes`.
 -- Assumes nothing.
-use Rattle.stream_judge.proofs.Passes.{says_odd, says_none, says_many, says_done, says-offence, says_word}
+use mathlib.Core.Path.{sym, ap, ◌∙◌}
+use Rattle.std.specs.Prelude.{Some}
+use Rattle.offence_tests.specs.declared.Offence.{Offence}
+use Rattle.stream_judge.proofs.Passes.{found_say, right_is, says_wrong, says_found}
 use Rattle.stream_judge.proofs.judge_sections.Goals as goal
 
-pub returns-then-channel-ne0 : goal.returns-then-channel-ne0
-returns-then-channel-ne0 c = says_odd c.args.channel.now c.if-channel-ne0.true
+pub returns-then-not-is_right_length : goal.returns-then-not-is_right_length
+returns-then-not-is_right_length c = says_wrong c.args.channel.now (sym c.is_right_length.ensures ∙ c.if-not-is_right_length.true)
 
-pub returns-then-n-lt1 : goal.returns-then-n-lt1
-returns-then-n-lt1 c = says_none c.args.channel.now c.if-channel-ne0.false c.if-n-lt1.true
+pub first_offence-requires : goal.first_offence-requires
+first_offence-requires c = right_is _ (sym c.is_right_length.ensures ∙ c.if-not-is_right_length.false)
 
-pub returns-then-n-gt9 : goal.returns-then-n-gt9
-returns-then-n-gt9 c = says_many c.args.channel.now c.if-channel-ne0.false c.if-n-lt1.false c.if-n-gt9.true
+pub returns-in_default : goal.returns-in_default
+returns-in_default c =
+    ap found_say (sym c.in_default.is)
+    ∙ says_found c.args.channel.now (sym c.is_right_length.ensures ∙ c.if-not-is_right_length.false) _ c.first_offence.ensures
 
-pub returns-then-found-eq0 : goal.returns-then-found-eq0
-returns-then-found-eq0 c = says_done c.args.channel.now c.if-channel-ne0.false c.if-n-lt1.false c.if-n-gt9.false _ _ c.first_offence-found.ensures c.if-found-eq0.true
+pub returns-in-Run : goal.returns-in-Run
+returns-in-Run c =
+    ap (λ (o : Offence). found_say (Some (o, c.in-Some.place))) (sym c.in-Run.is)
+    ∙ ap found_say (sym c.in-Some.is)
+    ∙ says_found c.args.channel.now (sym c.is_right_length.ensures ∙ c.if-not-is_right_length.false) _ c.first_offence.ensures
 
-pub returns-then-found-eq25 : goal.returns-then-found-eq25
-returns-then-found-eq25 c = says-offence c.args.channel.now c.if-channel-ne0.false c.if-n-lt1.false c.if-n-gt9.false _ _ c.first_offence-found.ensures 25 c.if-found-eq25.true c.if-found-eq0.false
+pub returns-in-Header : goal.returns-in-Header
+returns-in-Header c =
+    ap (λ (o : Offence). found_say (Some (o, c.in-Some.place))) (sym c.in-Header.is)
+    ∙ ap found_say (sym c.in-Some.is)
+    ∙ says_found c.args.channel.now (sym c.is_right_length.ensures ∙ c.if-not-is_right_length.false) _ c.first_offence.ensures
 
-pub returns-then-found-eq26 : goal.returns-then-found-eq26
-returns-then-found-eq26 c = says-offence c.args.channel.now c.if-channel-ne0.false c.if-n-lt1.false c.if-n-gt9.false _ _ c.first_offence-found.ensures 26 c.if-found-eq26.true c.if-found-eq0.false
-
-pub returns : goal.returns
-returns c = says_word c.args.channel.now c.if-channel-ne0.false c.if-n-lt1.false c.if-n-gt9.false _ _ c.first_offence-found.ensures c.if-found-eq0.false c.if-found-eq25.false c.if-found-eq26.false
+pub returns-in-Word : goal.returns-in-Word
+returns-in-Word c =
+    ap (λ (o : Offence). found_say (Some (o, c.in-Some.place))) (sym c.in-Word.is)
+    ∙ ap found_say (sym c.in-Some.is)
+    ∙ says_found c.args.channel.now (sym c.is_right_length.ensures ∙ c.if-not-is_right_length.false) _ c.first_offence.ensures

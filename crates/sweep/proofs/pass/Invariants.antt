@@ -1,12 +1,11 @@
--- `sweep::pass` meets its contract. The loop's invariant: s0 and s1 are the sums of the columns of the rows passed (`Sweeping`).
+-- `sweep::pass` meets its contract. The loop's invariant: s0 and s1 are the sums of the columns of the rows passed (`Passing`).
 -- Assumes nothing.
-use Prim.Native.Nat.{◌-◌}
+use mathlib.Core.Path.{◌≡◌}
 use lib.ListN.{length}
-use Rattle.sweep.proofs.Sweeping.{Sweeping}
+use Rattle.std.specs.Slice.Iter.{chunks_exact_rest, chunks_exact_size}
+use Rattle.sweep.proofs.Sweeping.{Passing}
 use Rattle.sweep.proofs.pass.Given as goal
 
-abbrev pub invariant-loop-at : goal.invariant-loop-at
-invariant-loop-at l = Sweeping l.rows l.w l.at l.s0 l.s1
-
-abbrev pub decreases-loop-at : goal.decreases-loop-at
-decreases-loop-at l = length l.rows - l.at
+abbrev pub invariant-loop-row : goal.invariant-loop-row
+invariant-loop-row l =
+    Passing l.rows (length l.initial.s0) (chunks_exact_rest l.row-iterator) l.s0 l.s1 × (chunks_exact_size l.row-iterator ≡ length l.initial.s0)

@@ -17,9 +17,6 @@ loop-k-init c = filling-none _ _ (sym (length-risen c.args.to.now c.args.row.now
 pub bounds-to-k : goal.bounds-to-k
 bounds-to-k c = omega (arith, filling_long c.loop-k.invariant)
 
-pub times_alpha-raised-requires : goal.times_alpha-raised-requires
-times_alpha-raised-requires c = tt
-
 pub bounds-to-k-in-loop-k : goal.bounds-to-k-in-loop-k
 bounds-to-k-in-loop-k c = omega (arith, filling_long c.loop-k.invariant)
 

@@ -2,19 +2,21 @@
 -- Assumes nothing.
 use mathlib.Core.Path.{subst}
 use mathlib.Core.List.{[], ◌∷◌}
-use Prim.Native.Nat.{ℕ}
+use Prim.Native.Nat.{ℕ, ◌<◌}
 use native.Mathlib.Omega.{arith}
+use borrow.Author.Rules.{rules}
 use lib.Bits.{bit_xor}
-use Rattle.field.specs.Field.{times_alpha, power}
+use lib.ListN.{get_or}
 use Rattle.field.specs.Field.Product.{mul-lt}
 use Rattle.codeword.specs.Parity.{WithSums}
 use Rattle.word_parity.proofs.Solved.{two_solved}
 use Rattle.word_parity.proofs.parity_from_sums.Goals as goal
 
 pub returns : goal.returns
-unfolding power times_alpha
 returns c =
-    subst (λ (t : ℕ). WithSums (c.args.s0 ∷ t ∷ []) (c.product-p.result ∷ bit_xor c.args.s0 c.product-p.result ∷ []))
-    c.product.ensures
-    (two_solved c.args.s0 c.product.result c.ranges.s0.fits (omega (arith, c.product.ensures, mul-lt c.args.s1 2 c.ranges.s1.fits))
-    c.product-p.ensures)
+    let s = c.args.sums in
+    let t = c.times_power in
+    let h : get_or s 1 0 < 256 = search rules in
+    subst (λ (x : ℕ). WithSums (get_or s 0 0 ∷ x ∷ []) (c.product-p.result ∷ bit_xor (get_or s 0 0) c.product-p.result ∷ []))
+    t.ensures
+    (two_solved (get_or s 0 0) t.result (search rules) (omega (arith, t.ensures, mul-lt (get_or s 1 0) 2 h)) c.product-p.ensures)

@@ -1,12 +1,11 @@
 -- A guide finds the byte of each word, and no byte where there is none.
 -- Assumes nothing.
-use Rattle.std.specs.Prelude.{◌≡◌, Bool, cond, List, ℕ, ◌%◌, eqb}
+use Rattle.std.specs.Prelude.{◌≡◌, Bool, cond, List, ℕ, ◌%◌, eqb, Some, None}
 use Rattle.std.proofs.Math.Path.{refl, ap, sym}
 use Rattle.std.proofs.Common.{◌∙◌}
 use Rattle.std.proofs.Math.Bool.{true, false}
 use borrow.Author.Tests.{eqb-true, eqb-false}
 use Rattle.std.proofs.Math.ListN.{get_or}
-use Rattle.words.specs.declared.Symbol.TheVariants.{Byte, Unknown}
 use Rattle.words.specs.Words.{words, word_of, byte_of}
 use Rattle.words.specs.LookUp.{Guide, looked_up}
 use Rattle.words.specs.LookUp.One.{guide_bytes}
@@ -16,7 +15,7 @@ module _ (g : List ℕ) (guide : Guide g) (w : ℕ) where
   guess : ℕ
   guess = get_or g (w % 1351) 0
 
-  by_guess : (t : Bool) → eqb (word_of guess) w ≡ t → cond t (Byte guess) Unknown ≡ byte_of w
+  by_guess : (t : Bool) → eqb (word_of guess) w ≡ t → cond t (Some guess) None ≡ byte_of w
   unfolding guess
   by_guess true e =
       let p : word_of guess ≡ w = eqb-true (word_of guess) w e in

@@ -1,10 +1,9 @@
 -- All words are different, so the byte of a word is the one whose word it is.
 -- Assumes nothing.
-use Rattle.std.specs.Prelude.{◌≡◌, refl, List, [], ◌∷◌, ℕ, suc, ◌<◌, T, eqb, length, get_or}
+use Rattle.std.specs.Prelude.{◌≡◌, refl, List, [], ◌∷◌, ℕ, suc, ◌<◌, T, eqb, length, get_or, Some, None}
 use Rattle.std.proofs.Common.{◌∙◌, ap, sym, suc-le-suc, arith, lt-ltb, ne_eqb, eqb→eq}
 use Rattle.outcome.specs.Table.{all_below}
 use Rattle.outcome.specs.Table.Entries.{below}
-use Rattle.words.specs.declared.Symbol.TheVariants.{Byte, Unknown}
 use Rattle.words.specs.Words.{words, word_of, sync0, sync1, place_of, symbol_at, byte_of}
 use Rattle.words.specs.Words.Facts.{how_many_lem, not-sync0, not-sync1}
 
@@ -22,7 +21,7 @@ pub words_different : (a b : ℕ) → a < 256 → b < 256 → word_of a ≡ word
 words_different a b ha hb e = sym (word_place_lem a ha) ∙ ap (λ (x : ℕ). place_of x words) e ∙ word_place_lem b hb
 
 -- the byte of a word is the one whose word it is
-pub byte_of_word : (b : ℕ) → b < 256 → byte_of (word_of b) ≡ Byte b
+pub byte_of_word : (b : ℕ) → b < 256 → byte_of (word_of b) ≡ Some b
 unfolding byte_of
 byte_of_word b h = rw (word_place_lem b h, lt-ltb b 256 h)
 
@@ -31,15 +30,15 @@ pub nowhere : (w : ℕ) (xs : List ℕ) → ((k : ℕ) → k < length xs → get
 nowhere w [] h = refl
 nowhere w (x ∷ xs) h = rw (ne_eqb x w (h 0 (omega arith))) (ap suc (nowhere w xs (λ k l. h (suc k) (suc-le-suc l))))
 
--- what is no word is read as unknown
-pub no_word : (w : ℕ) → ((b : ℕ) → b < 256 → word_of b ≡ w → ⊥) → byte_of w ≡ Unknown
+-- what is no word stands for no byte
+pub no_word : (w : ℕ) → ((b : ℕ) → b < 256 → word_of b ≡ w → ⊥) → byte_of w ≡ None
 unfolding byte_of
 no_word w h = ap symbol_at (nowhere w words (λ k l. h k (rw how_many_lem at l)) ∙ how_many_lem)
 
 -- so SYNC 0 is not read as a byte
-pub sync0_unknown : byte_of sync0 ≡ Unknown
+pub sync0_unknown : byte_of sync0 ≡ None
 sync0_unknown = no_word sync0 not-sync0
 
 -- and neither is SYNC 1
-pub sync1_unknown : byte_of sync1 ≡ Unknown
+pub sync1_unknown : byte_of sync1 ≡ None
 sync1_unknown = no_word sync1 not-sync1

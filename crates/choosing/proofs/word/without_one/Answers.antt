@@ -14,7 +14,7 @@ pub returns : goal.returns
 returns c =
     let a = c.args in
     let p = a.p in
-    let run = c.after_word-run.ensures ∙ ap (λ (e : ℕ). after_word e p.lead p.plain p.ten) c.after_zeros-entry.ensures in
+    let run = c.after_word.ensures ∙ ap (λ (e : ℕ). after_word e p.lead p.plain p.ten) c.after_zeros-entry.ensures in
     subst (λ (x : Trace). WordStands a.t (bits_of 14 p.word) (record { bits = p.word; after = x }) m000)
-    (sym (λ i. record { run = run i; tally = c.spend-after.ensures i }))
+    (sym (λ i. record { run = run i; tally = c.spend.ensures i }))
     (zeros_stand p c.requires.1 a.t c.requires.0)

@@ -5,4 +5,4 @@ use Rattle.exports.proofs.writing.road_write.Goals as goal
 
 pub returns : goal.returns
 returns c =
-    written_at c.write.result c.new.ensures c.write.ensures c.tell.ensures
+    written_at c.write.result c.new.ensures c.write.ensures c.number.ensures

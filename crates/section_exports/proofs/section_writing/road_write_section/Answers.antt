@@ -1,4 +1,4 @@
--- `road_write_section` meets its contract: it keeps the promise of `write`, and `tell` tells the answer.
+-- `road_write_section` meets its contract: it keeps the promise of `write`, and `number` tells the answer.
 -- Assumes nothing.
 use borrow.Author.Rules.{rules}
 use mathlib.Core.Path.{◌≡◌, refl, ◌∙◌}
@@ -25,7 +25,7 @@ pub returns : goal.returns
 returns c =
     record {
       say = _;
-      tells = record { has_number = c.tell.ensures; has_values = refl };
+      tells = record { has_number = c.number.ensures; has_values = refl };
       kept =
           stored (λ s. written s c.args.frames.now c.args.control.now c.args.out.now) _ _ _ _ _ _ _ _ c.write-step.result.next _
           (search rules) (search rules) (search rules) (search rules) c.write-step.ensures;

@@ -2,7 +2,6 @@
 -- leads from the start (`FramesWritten`); a frame that is written is one of them less (`frames_more`).
 -- Assumes nothing.
 use mathlib.Core.Path.{sym, ◌∙◌}
-use native.Mathlib.Omega.{arith}
 use Rattle.section_frames.proofs.FrameLoop.{frames_none, frame-due, frames_more, frames_all}
 use Rattle.section_frames.proofs.frame.write_all.Goals as goal
 
@@ -15,9 +14,6 @@ pub write_frame-s-requires : goal.write_frame-s-requires
 write_frame-s-requires c =
     let p = c.requires in
     frame-due c.loop-f.invariant c.loop-f-test.true p.1 p.2
-
-pub loop-f-smaller : goal.loop-f-smaller
-loop-f-smaller c = omega arith
 
 pub loop-f-preserved : goal.loop-f-preserved
 loop-f-preserved c =

@@ -1,6 +1,6 @@
 -- `section_frames::frame::write_frame` meets its contract: a Sync Header and what is chosen for the frame make the frame (`frame_done`).
 -- Assumes nothing.
-use mathlib.Core.Path.{◌≡◌, refl}
+use mathlib.Core.Path.{◌≡◌}
 use native.Mathlib.Omega.{arith}
 use lib.ListN.{length}
 use Rattle.section_frames.proofs.FrameLoop.{frame-words-small, frame_tail_small, frame_done}
@@ -21,7 +21,6 @@ put-tailed-requires c =
       held = c.write_words-worded.ensures.held;
       small = frame_tail_small c.args.out.now c.args.w c.args.frames.now c.args.control.now c.args.f c.symbols_of-symbols.result c.choose_frame-chosen.result c.choose_frame-chosen.ensures;
       short = omega arith;
-      scale_is = refl;
       room = omega (arith, c.write_words-worded.ensures.place, c.write_words-worded.ensures.long, c.put-headed.ensures.place, c.put-headed.ensures.long, c.requires.rest.long, c.requires.room);
     }
 

@@ -1,37 +1,33 @@
 -- `section_frames::frame::write_words` meets its contract. The invariant: the bits of the words before place i are written (`WordsWritten`).
 -- Assumes nothing.
-use mathlib.Core.Path.{◌≡◌, refl}
+use mathlib.Core.Path.{◌≡◌}
 use native.Mathlib.Omega.{arith}
 use lib.ListN.{length}
 use Rattle.section_frames.proofs.WordLoop.{written_none, written_more, written_all}
 use borrow.Author.Rules.{rules}
 use Rattle.section_frames.proofs.frame.write_words.Goals as goal
 
-pub loop-i-init : goal.loop-i-init
-loop-i-init c = written_none _ _ _ (let long : length c.args.words ≡ 33 = search rules in long) c.requires.held
+pub loop-word-init : goal.loop-word-init
+loop-word-init c = written_none _ _ _ (let long : length c.args.words ≡ 33 = search rules in long) c.requires.held
 
 pub put-p-requires : goal.put-p-requires
 put-p-requires c =
-    let l = c.loop-i in
+    let l = c.loop-word in
     let p = c.requires in
     record {
       held = l.invariant.held;
-      small = p.small l.i;
+      small = p.small l.word-index;
       short = omega arith;
-      scale_is = refl;
-      room = omega (arith, l.invariant.place, l.invariant.long, p.room, c.loop-i-test.true);
+      room = omega (arith, l.invariant.place, l.invariant.long, p.room, c.loop-word-test.true);
     }
 
-pub loop-i-smaller : goal.loop-i-smaller
-loop-i-smaller c = omega arith
-
-pub loop-i-preserved : goal.loop-i-preserved
-loop-i-preserved c =
-    written_more c.args.out.now c.args.from c.args.words (let long : length c.args.words ≡ 33 = search rules in long) _ _ _ _ _ c.loop-i.invariant c.loop-i-test.true c.put-p.ensures
+pub loop-word-preserved : goal.loop-word-preserved
+loop-word-preserved c =
+    written_more c.args.out.now c.args.from c.args.words (let long : length c.args.words ≡ 33 = search rules in long) _ _ _ _ _ c.loop-word.invariant c.loop-word-test.true c.put-p.ensures
 
 pub shape_of-out : goal.shape_of-out
-shape_of-out c = c.loop-i.invariant.long
+shape_of-out c = c.loop-word.invariant.long
 
 pub returns : goal.returns
 returns c =
-    written_all c.args.out.now c.args.from c.args.words (let long : length c.args.words ≡ 33 = search rules in long) _ _ _ c.loop-i.invariant c.loop-i-test.false
+    written_all c.args.out.now c.args.from c.args.words (let long : length c.args.words ≡ 33 = search rules in long) _ _ _ c.loop-word.invariant c.loop-word-test.false

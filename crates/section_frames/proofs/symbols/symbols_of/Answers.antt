@@ -10,16 +10,13 @@ use Rattle.section_frames.proofs.symbols.symbols_of.Goals as goal
 pub loop-i-init : goal.loop-i-init
 loop-i-init c = (refl, λ i h. absurd (omega arith))
 
-pub loop-i-smaller : goal.loop-i-smaller
-loop-i-smaller c = omega arith
-
 pub loop-i-preserved : goal.loop-i-preserved
 loop-i-preserved c =
     let a = c.args in
     let l = c.loop-i in
-    let long : length l.symbols ≡ 33 = l.invariant.0 in
-    let h : l.i < length l.symbols = omega (arith, c.loop-i-test.true) in
-    (length-set l.symbols l.i c.symbol_at.result ∙ long, found_more a.frames.now a.control.now a.f l.i l.symbols c.symbol_at.result l.invariant.1 h c.symbol_at.ensures)
+    let long : length l.symbol-items ≡ 33 = l.invariant.0 in
+    let h : l.i < length l.symbol-items = omega (arith, c.loop-i-test.true) in
+    (length-set l.symbol-items l.i c.symbol_at.result ∙ long, found_more a.frames.now a.control.now a.f l.i l.symbol-items c.symbol_at.result l.invariant.1 h c.symbol_at.ensures)
 
 pub returns : goal.returns
 returns c =

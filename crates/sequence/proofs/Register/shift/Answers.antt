@@ -7,5 +7,5 @@ use Rattle.sequence.proofs.Register.shift.Goals as goal
 
 pub returns : goal.returns
 returns c =
-    let x = c.args.self.bits in
-    λ n e. (handed_out n x e, ap (λ (y : ℕ). x / 256 + 128 * y) c.wide.ensures.0 ∙ eight_on_lem n x e)
+    let x = c.args.self.now.bits in
+    λ n e. (handed_out n x e, ap (λ (y : ℕ). x / 256 + 128 * y) c.from.ensures ∙ eight_on_lem n x e)

@@ -11,8 +11,8 @@ triple-held-requires c = (omega (arith, c.requires.0, c.requires.2), omega arith
 pub loop-t-init : goal.loop-t-init
 loop-t-init c = calming_start c.args.channel.now c.args.n c.requires.0 _ c.triple-held.ensures.0
 
-pub overflow_mul-n : goal.overflow_mul-n
-overflow_mul-n c = omega (arith, c.requires.2)
+pub overflow_mul-t-end : goal.overflow_mul-t-end
+overflow_mul-t-end c = omega (arith, c.requires.2)
 
 pub overflow_add-t : goal.overflow_add-t
 overflow_add-t c = omega (arith, c.requires.2, c.loop-t-test.true)
@@ -32,18 +32,12 @@ overflow_mul-result c = omega (arith, c.requires.2, c.loop-t.invariant.upto)
 pub returns-then-not-calm : goal.returns-then-not-calm
 returns-then-not-calm c = (omega (arith, c.loop-t.invariant.upto), c.loop-t.invariant.clear)
 
-pub overflow_add-t-in-loop-t : goal.overflow_add-t-in-loop-t
-overflow_add-t-in-loop-t c = omega (arith, c.requires.2, c.loop-t-test.true)
-
-pub loop-t-smaller : goal.loop-t-smaller
-loop-t-smaller c = omega (arith, c.loop-t-test.true)
-
 pub loop-t-preserved : goal.loop-t-preserved
 loop-t-preserved c = calming_more c.args.channel.now c.args.n c.requires.0 _ _ c.loop-t.invariant c.loop-t-test.true _ c.triple-next.ensures.0
     (sym c.is_triple_calm-calm.ensures ∙ c.if-not-calm.false)
 
 pub overflow_mul-result-2 : goal.overflow_mul-result-2
-overflow_mul-result-2 c = omega (arith, c.requires.2, c.loop-t.invariant.upto)
+overflow_mul-result-2 c = omega (arith, c.requires.2)
 
 pub returns : goal.returns
-returns c = (omega (arith, c.loop-t.invariant.upto), c.loop-t.invariant.clear)
+returns c = (omega arith, λ q h. c.loop-t.invariant.clear q (omega (arith, h, c.loop-t-test.false)))

@@ -19,12 +19,6 @@ overflow_mul-v c = omega (arith, growing_small c.args.channel.now c.args.p c.req
 pub overflow_add-v : goal.overflow_add-v
 overflow_add-v c = omega (arith, growing_small c.args.channel.now c.args.p c.requires.1 _ _ c.loop-k.invariant c.loop-k-test.true, c.bit_at-b.ensures.1)
 
-pub overflow_add-k : goal.overflow_add-k
-overflow_add-k c = omega (arith, c.loop-k-test.true)
-
-pub loop-k-smaller : goal.loop-k-smaller
-loop-k-smaller c = omega (arith, c.loop-k-test.true)
-
 pub loop-k-preserved : goal.loop-k-preserved
 loop-k-preserved c = growing_more c.args.channel.now c.args.p c.requires.1 _ _ _ c.loop-k.invariant c.loop-k-test.true c.bit_at-b.ensures.0
 

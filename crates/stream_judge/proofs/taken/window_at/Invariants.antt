@@ -1,11 +1,7 @@
 -- `taken::window_at` meets its contract: the invariant is that v has the first k bits of the window (`Growing`).
 -- Assumes nothing.
-use Prim.Native.Nat.{◌-◌}
 use Rattle.stream_judge.proofs.Passes.{Growing}
 use Rattle.stream_judge.proofs.taken.window_at.Given as goal
 
 abbrev pub invariant-loop-k : goal.invariant-loop-k
 invariant-loop-k l = Growing l.channel l.p l.k l.v
-
-abbrev pub decreases-loop-k : goal.decreases-loop-k
-decreases-loop-k l = 35 - l.k

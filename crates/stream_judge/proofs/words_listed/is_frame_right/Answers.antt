@@ -32,12 +32,6 @@ is_listed-known-requires c = (c.requires.0, c.requires.1)
 pub returns-then-not-right : goal.returns-then-not-right
 returns-then-not-right c = λ e. absurd (false≢true e)
 
-pub overflow_add-i : goal.overflow_add-i
-overflow_add-i c = omega (arith, c.loop-i-test.true)
-
-pub loop-i-smaller : goal.loop-i-smaller
-loop-i-smaller c = omega (arith, c.loop-i-test.true)
-
 pub loop-i-preserved : goal.loop-i-preserved
 loop-i-preserved c =
     let h = c.loop-i-test.true in

@@ -7,8 +7,8 @@ use Rattle.stream_judge.proofs.words_listed.listed_until.Goals as goal
 pub loop-f-init : goal.loop-f-init
 loop-f-init c = (omega arith, frames_none c.args.channel.now)
 
-pub overflow_mul-n : goal.overflow_mul-n
-overflow_mul-n c = omega (arith, c.requires.2)
+pub overflow_mul-f-end : goal.overflow_mul-f-end
+overflow_mul-f-end c = omega (arith, c.requires.2)
 
 pub is_frame_right-right-requires : goal.is_frame_right-right-requires
 is_frame_right-right-requires c = (c.all_words-table.ensures, c.guide-guide.ensures, omega (arith, c.requires.0, c.requires.2), omega (arith, c.requires.0, c.loop-f-test.true))
@@ -19,12 +19,6 @@ overflow_mul-result c = omega (arith, c.requires.2, c.loop-f.invariant.0)
 pub returns-then-not-right : goal.returns-then-not-right
 returns-then-not-right c = (omega (arith, c.loop-f.invariant.0), frames_clear c.args.channel.now _ c.loop-f.invariant.1)
 
-pub overflow_add-f : goal.overflow_add-f
-overflow_add-f c = omega (arith, c.requires.2, c.loop-f.invariant.0)
-
-pub loop-f-smaller : goal.loop-f-smaller
-loop-f-smaller c = omega (arith, c.loop-f-test.true)
-
 pub loop-f-preserved : goal.loop-f-preserved
 loop-f-preserved c = (
   omega (arith, c.loop-f-test.true),
@@ -32,7 +26,7 @@ loop-f-preserved c = (
 )
 
 pub overflow_mul-result-2 : goal.overflow_mul-result-2
-overflow_mul-result-2 c = omega (arith, c.requires.2, c.loop-f.invariant.0)
+overflow_mul-result-2 c = omega (arith, c.requires.2)
 
 pub returns : goal.returns
-returns c = (omega (arith, c.loop-f.invariant.0), frames_clear c.args.channel.now _ c.loop-f.invariant.1)
+returns c = (omega arith, λ q h. frames_clear c.args.channel.now _ c.loop-f.invariant.1 q (omega (arith, h, c.loop-f-test.false)))

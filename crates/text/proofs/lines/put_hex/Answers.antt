@@ -1,15 +1,15 @@
 -- `text::lines::put_hex` meets its contract: one digit is written after the other.
 -- Assumes nothing.
-use mathlib.Core.Path.{◌∙◌}
 use native.Mathlib.Omega.{arith}
-use Rattle.numerals.specs.Numerals.Half.{half_digit}
-use Rattle.numerals.specs.Numerals.{hex}
-use Rattle.text.specs.Line.More.{and_then, same_byte}
+use Rattle.text.proofs.Hex.{hex_ascii, two_digits}
 use Rattle.text.proofs.lines.put_hex.Goals as goal
 
-pub returns : goal.returns
-unfolding hex
-returns c =
-    and_then
-    (same_byte (c.hex_digit.ensures ∙ half_digit _ (omega arith)) c.put.ensures)
-    (same_byte (c.hex_digit-2.ensures ∙ half_digit _ (omega arith)) c.put-2.ensures)
+pub put-requires : goal.put-requires
+put-requires c = (hex_ascii _ c.hex_digit.ensures, omega arith)
+
+pub put-requires-2 : goal.put-requires-2
+put-requires-2 c = (hex_ascii _ c.hex_digit-2.ensures, omega arith)
+
+pub returns-clause-text : goal.returns-clause-text
+returns-clause-text c =
+    two_digits _ c.args.b (omega arith) c.hex_digit.ensures c.hex_digit-2.ensures c.put.ensures.text c.put-2.ensures.text

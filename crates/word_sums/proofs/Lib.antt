@@ -1,0 +1,2 @@
+-- a sum byte by byte, and all of them
+pub mod Horner
