@@ -8,5 +8,9 @@ ghost use Rattle.codeword.specs.Code.{changes};
 pub fn count_changes(a: &[u8], b: &[u8]) -> usize
     ensures { result ≡ changes a.now b.now }
 {
-    a.iter().zip(b).filter(|(x, y)| x != y).count()
+    // Not by `filter` and `count`, which are not vectorised.
+    a.iter().zip(b).fold(
+        0,
+        |count: usize, (x, y)| count.wrapping_add(usize::from(*x != *y)),
+    )
 }

@@ -87,6 +87,6 @@ pub fn read_frame(frame: &[u8], main: &mut [u8]) -> Result<Fields, ReadFrameErro
         outcome::wipe(main, 2048);
         return Err(ReadFrameError::ReservedBit);
     }
-    main.copy_from_slice(&frame[12..2060]);
+    outcome::copy(&frame[12..2060], main);
     Ok(fields_of(frame))
 }

@@ -36,6 +36,9 @@ pub fn copy(from: &[u8], to: &mut [u8]) -> bool
     if from.len() != to.len() {
         return false;
     }
-    to.copy_from_slice(from);
+    // Not `copy_from_slice`: an archive would then need `memmove` from outside.
+    for (i, byte) in from.iter().enumerate() {
+        to[i] = *byte;
+    }
     true
 }

@@ -1,9 +1,12 @@
 -- From one step of a report to the next: what its functions ask of a line, and what they know after it.
 -- Assumes nothing.
-use Rattle.std.proofs.Common.{◌≡◌, sym, ◌∙◌, subst, Bool, true, false, List, ℕ}
+use Rattle.std.proofs.Common.{◌≡◌, sym, subst, Bool, true, false, List, ℕ}
 use Rattle.fate_counts.specs.declared.Counts.{Counts}
 use Rattle.fate_counts.specs.declared.Fate.{Fate}
 use Rattle.fate_counts.specs.Counting.{none_counted, counted_with}
+use Rattle.text.specs.declared.Text.{Text}
+use Rattle.text.specs.Line.{Holds, written}
+use Rattle.text.specs.Line.More.{holds_written}
 use Rattle.text.specs.Report.{first_line, fate_line}
 use Rattle.report_stand.specs.declared.Progress.{Progress}
 use Rattle.report_stand.specs.declared.Stand.{Stand}
@@ -13,9 +16,8 @@ use Rattle.report_run.specs.Run.{Step, opens, tells, unwritten, Goes}
 use Rattle.report_lines.specs.Inner.Says.{Says, Due}
 
 -- a line that the report has here may be said
-pub sayable : {s t : Stand} {c d : Counts} {text written : List ℕ} (line : List ℕ) → text ≡ written → written ≡ line → Step s c line t d
-    → Step s c text t d
-sayable {s} {t} {c} {d} line p q step = subst (λ (l : List ℕ). Step s c l t d) (sym (p ∙ q)) step
+pub sayable : {s t : Stand} {c d : Counts} (line : List ℕ) (text : Text) → Holds line text → Step s c line t d → Step s c (written text) t d
+sayable {s} {t} {c} {d} line text h step = subst (λ (l : List ℕ). Step s c l t d) (sym (holds_written line text h)) step
 
 -- a line goes out or ends the report
 pub said : {s : Stand} {c : Counts} (line : List ℕ) (next r : Progress) (went : Bool) → Step s c line next.stand next.counts
@@ -32,9 +34,9 @@ tells_due : {c : Counts} {fate : Fate} → Due c fate → Step Going c (fate_lin
 tells_due u = tells u.sector u.long u.fated u.room
 
 module _ (c d : Counts) (fate : Fate) (e : d ≡ counted_with c fate) where
-  pub tellable : {text written : List ℕ} → Due c fate → text ≡ written → written ≡ fate_line c.sectors fate → Step Going c text Going d
-  tellable u p q =
-      sayable (fate_line c.sectors fate) p q (subst (λ (x : Counts). Step Going c (fate_line c.sectors fate) Going x) (sym e) (tells_due u))
+  pub tellable : (text : Text) → Due c fate → Holds (fate_line c.sectors fate) text → Step Going c (written text) Going d
+  tellable text u h =
+      sayable (fate_line c.sectors fate) text h (subst (λ (x : Counts). Step Going c (fate_line c.sectors fate) Going x) (sym e) (tells_due u))
 
 -- ---- the first line
 

@@ -11,12 +11,12 @@ use fate_counts::{Counts, Fate};
 use report_stand::{Progress, Stand};
 
 // Writes a line, and says whether all of it went out.
-fn print(rt: &impl Print, line: &str) -> bool {
-    rt.write_all(line.as_bytes()).is_ok()
+fn print(rt: &impl Print, line: &[u8]) -> bool {
+    rt.write_all(line).is_ok()
 }
 
 // Prints the line that leads from here to `next`.
-fn say(rt: &impl Print, stand: Stand, counts: Counts, line: &str, next: Progress) -> Progress
+fn say(rt: &impl Print, stand: Stand, counts: Counts, line: &[u8], next: Progress) -> Progress
     requires { Step stand counts line.now next.stand next.counts }
     ensures { Says stand counts next result }
 {
@@ -33,7 +33,7 @@ fn tell(rt: &impl Print, counts: Counts, fate: Fate) -> Progress
         counts: counts.counted(fate),
         stand: Stand::Going,
     };
-    say(rt, Stand::Going, counts, line.as_str(), next)
+    say(rt, Stand::Going, counts, &line.bytes[..line.len], next)
 }
 
 // Repairs the whole Sectors that came, at most sixteen, and prints the line of each, in order; where they are not such Sectors, or cannot all be
@@ -74,7 +74,7 @@ pub fn open(rt: &impl Print) -> Progress
         stand: Stand::Going,
     };
     let line = text::first_line();
-    say(rt, Stand::Opening, counts, line.as_str(), next)
+    say(rt, Stand::Opening, counts, &line.bytes[..line.len], next)
 }
 
 // Prints the count of leftover bytes.
@@ -86,7 +86,13 @@ pub fn tail(rt: &impl Print, left: u64, counts: Counts) -> Progress
         stand: Stand::Closing,
     };
     let line = text::tail_line(left);
-    say(rt, Stand::AtEnd(left), counts, line.as_str(), next)
+    say(
+        rt,
+        Stand::AtEnd(left),
+        counts,
+        &line.bytes[..line.len],
+        next,
+    )
 }
 
 // Prints the last line.
@@ -98,5 +104,5 @@ pub fn last(rt: &impl Print, counts: Counts) -> Progress
         stand: Stand::Done,
     };
     let line = text::last_line(counts.clean, counts.repaired, counts.refused);
-    say(rt, Stand::Closing, counts, line.as_str(), next)
+    say(rt, Stand::Closing, counts, &line.bytes[..line.len], next)
 }

@@ -28,7 +28,7 @@ fn put_scrambled(sector: &[u8], out: &mut [u8])
     requires { (length sector.now ≡ 2352) × (length out.old ≡ 2352) }
     ensures { out.new ≡ scrambled sector.now }
 {
-    out.copy_from_slice(sector);
+    outcome::copy(sector, out);
     let sequence = sequence::worked_out();
     xor::add(&mut out[12..], &sequence);
 }

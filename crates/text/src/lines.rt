@@ -2,62 +2,87 @@
 // room, so that they cannot fail; `write!` would answer with a result of which no clause says that it is `Ok`.
 ghost use Rattle.std.specs.Prelude.{◌≡◌, [], ◌∷◌, ◌++◌, ◌+◌, ◌≤◌, ◌<◌, length};
 ghost use Rattle.arrayvec.specs.ArrayString.{array_string_len};
+ghost use Rattle.text.specs.Line.{Holds};
 ghost use Rattle.numerals.specs.Numerals.{decimal, hex};
 ghost use Rattle.text.specs.Report.{first_line, time_text, fate_text, fate_line, tail_line, last_line};
 
 use crate::Text;
 use address::HeaderTime;
+use arrayvec::ArrayString;
 use fate_counts::Fate;
 use numerals::hex_digit;
 
+// A line while it is written.
+type Line = ArrayString<96>;
+
+// The text of some bytes: zeros are put behind them.
+fn with_zeros(line: &[u8]) -> Text
+    requires { length line.now ≤ 96 }
+    ensures { Holds line.now result }
+{
+    let mut bytes = [0; 96];
+    bytes[..line.len()].copy_from_slice(line);
+    Text {
+        bytes,
+        len: line.len(),
+    }
+}
+
+// The text of a line that is written.
+fn text_of(line: &Line) -> Text
+    ensures { Holds line.now.bytes result }
+{
+    with_zeros(line.as_bytes())
+}
+
 // The report's first line.
 pub fn first_line() -> Text
-    ensures { result.bytes ≡ first_line }
+    ensures { Holds first_line result }
 {
-    let mut line = Text::new();
+    let mut line = Line::new();
     line.push_str("cd sectors 1\n");
-    line
+    text_of(&line)
 }
 
 // The line of the Sector with this index.
 pub fn fate_line(index: u64, fate: Fate) -> Text
-    ensures { result.bytes ≡ fate_line index fate }
+    ensures { Holds (fate_line index fate) result }
 {
-    let mut line = Text::new();
+    let mut line = Line::new();
     put_number(&mut line, index);
     line.push_str(" ");
     put_fate(&mut line, fate);
     line.push_str("\n");
-    line
+    text_of(&line)
 }
 
 // The line that counts the leftover bytes: empty if there are none.
 pub fn tail_line(left: u64) -> Text
-    ensures { result.bytes ≡ tail_line left }
+    ensures { Holds (tail_line left) result }
 {
-    let mut line = Text::new();
+    let mut line = Line::new();
     if left == 0 {
-        return line;
+        return text_of(&line);
     }
     put_labelled(&mut line, "tail ", left);
     line.push_str("\n");
-    line
+    text_of(&line)
 }
 
 // The report's last line.
 pub fn last_line(clean: u64, repaired: u64, refused: u64) -> Text
-    ensures { result.bytes ≡ last_line clean repaired refused }
+    ensures { Holds (last_line clean repaired refused) result }
 {
-    let mut line = Text::new();
+    let mut line = Line::new();
     put_labelled(&mut line, "clean ", clean);
     put_labelled(&mut line, " repaired ", repaired);
     put_labelled(&mut line, " refused ", refused);
     line.push_str("\n");
-    line
+    text_of(&line)
 }
 
 // A fate's word, and what comes with it.
-fn put_fate(line: &mut Text, fate: Fate)
+fn put_fate(line: &mut Line, fate: Fate)
     requires { array_string_len line.old + 36 ≤ 96 }
     ensures text { line.new.bytes ≡ line.old.bytes ++ fate_text fate }
     ensures len { array_string_len line.new ≤ array_string_len line.old + 36 }
@@ -77,7 +102,7 @@ fn put_fate(line: &mut Text, fate: Fate)
 }
 
 // A word, and the number that it is about.
-fn put_labelled(line: &mut Text, label: &str, n: u64)
+fn put_labelled(line: &mut Line, label: &str, n: u64)
     requires { array_string_len line.old + (length label.now + 20) ≤ 96 }
     ensures text { line.new.bytes ≡ line.old.bytes ++ (label.now ++ decimal n) }
     ensures len { array_string_len line.new ≤ array_string_len line.old + (length label.now + 20) }
@@ -87,7 +112,7 @@ fn put_labelled(line: &mut Text, label: &str, n: u64)
 }
 
 // Minute, second and frame, two hex digits each.
-fn put_time(line: &mut Text, time: HeaderTime)
+fn put_time(line: &mut Line, time: HeaderTime)
     requires { array_string_len line.old + 6 ≤ 96 }
     ensures text { line.new.bytes ≡ line.old.bytes ++ time_text time }
     ensures len { array_string_len line.new ≡ array_string_len line.old + 6 }
@@ -98,7 +123,7 @@ fn put_time(line: &mut Text, time: HeaderTime)
 }
 
 // A number in decimal digits, of which a u64 has at most 20.
-fn put_number(line: &mut Text, n: u64)
+fn put_number(line: &mut Line, n: u64)
     requires { array_string_len line.old + 20 ≤ 96 }
     ensures text { line.new.bytes ≡ line.old.bytes ++ decimal n }
     ensures len { array_string_len line.new ≤ array_string_len line.old + 20 }
@@ -108,7 +133,7 @@ fn put_number(line: &mut Text, n: u64)
 }
 
 // A byte in two capital hex digits.
-fn put_hex(line: &mut Text, b: u8)
+fn put_hex(line: &mut Line, b: u8)
     requires { array_string_len line.old + 2 ≤ 96 }
     ensures text { line.new.bytes ≡ line.old.bytes ++ hex b }
     ensures len { array_string_len line.new ≡ array_string_len line.old + 2 }
@@ -118,7 +143,7 @@ fn put_hex(line: &mut Text, b: u8)
 }
 
 // One character.
-fn put(line: &mut Text, ascii: u8)
+fn put(line: &mut Line, ascii: u8)
     requires { (ascii < 128) × (array_string_len line.old < 96) }
     ensures text { line.new.bytes ≡ line.old.bytes ++ ascii ∷ [] }
     ensures len { array_string_len line.new ≡ array_string_len line.old + 1 }

@@ -1,2 +1,2 @@
--- a sum byte by byte, and all of them
+-- all sums byte by byte
 pub mod Horner

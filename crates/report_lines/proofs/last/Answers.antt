@@ -5,4 +5,4 @@ use Rattle.report_lines.proofs.Steps.{sayable}
 use Rattle.report_lines.proofs.last.Goals as goal
 
 pub say-requires : goal.say-requires
-say-requires g c = sayable _ c.as_str.ensures.value c.last_line-line.ensures closes
+say-requires g c = sayable _ c.last_line-line.result c.last_line-line.ensures closes

@@ -5,4 +5,4 @@ use Rattle.report_lines.proofs.Steps.{sayable, openable}
 use Rattle.report_lines.proofs.open.Goals as goal
 
 pub say-requires : goal.say-requires
-say-requires g c = sayable first_line c.as_str.ensures.value c.first_line-line.ensures (openable _ c.none-counts.ensures)
+say-requires g c = sayable first_line _ c.first_line-line.ensures (openable _ c.none-counts.ensures)

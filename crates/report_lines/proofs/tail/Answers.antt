@@ -6,4 +6,4 @@ use Rattle.report_lines.proofs.Steps.{sayable}
 use Rattle.report_lines.proofs.tail.Goals as goal
 
 pub say-requires : goal.say-requires
-say-requires g c = sayable (tail_line c.args.left) c.as_str.ensures.value c.tail_line-line.ensures counts_left
+say-requires g c = sayable (tail_line c.args.left) _ c.tail_line-line.ensures counts_left
