@@ -1,33 +1,51 @@
--- The places in which two lists differ, counted pair by pair.
+-- Counting the places in which two lists differ, one place after the other.
 -- Assumes nothing.
-use Rattle.std.specs.Prelude.{◌≡◌, Bool, true, false, cond, not, List, [], ◌∷◌, ℕ, ◌+◌, ◌<◌, ◌%◌, ◌^◌, eqb, length, fold}
-use Rattle.std.proofs.Common.{sym, ap, ◌∙◌, add-zero, arith}
-use Rattle.std.specs.List.{zip}
+use mathlib.Core.Path.{◌≡◌, refl, sym, ap, ◌∙◌}
+use mathlib.Core.Bool.{Bool, true, false, cond, not}
+use mathlib.Core.Logic.{◌⊎◌, inl, inr}
+use mathlib.Core.List.{List, [], ◌∷◌}
+use Prim.Native.Nat.{ℕ, zero, suc, ◌+◌, ◌≤◌, ◌<◌}
+use native.Mathlib.Nat.{add_assoc, zero-add, add-zero}
+use native.Mathlib.Numerals.{add-one}
+use native.Mathlib.Omega.{arith}
+use lib.Dec.{eqb}
+use lib.ListN.{length, get_or, take}
+use Rattle.std.specs.Int.{from_bool}
 use Rattle.codeword.specs.Code.{changes}
 
--- one pair more, in a number of 64 bits
-abbrev pub counted : ℕ → ℕ × ℕ → ℕ
-counted n p = (n + cond (not (eqb p.0 p.1)) 1 0) % 2 ^ 64
+-- two unlike bytes count one
+pub unlike_counts : (t : Bool) → from_bool (not t) ≡ cond t 0 1
+unlike_counts true = refl
+unlike_counts false = refl
 
--- n were counted before
-onward : (n : ℕ) (a b : List ℕ) → n + length a < 2 ^ 64 → fold counted n (zip a b) ≡ n + changes a b
+pub changes-none_yet : (a b : List ℕ) → changes (take 0 a) (take 0 b) ≡ 0
 unfolding changes
-onward n [] b h = sym (add-zero n)
-onward n (x ∷ a) [] h = sym (add-zero n)
-onward n (x ∷ a) (y ∷ b) h = go (eqb x y) (onward n a b (omega arith)) (λ l. onward (n + 1) a b l)
-  where
-    go : (t : Bool) → fold counted n (zip a b) ≡ n + changes a b
-        → (n + 1 + length a < 2 ^ 64 → fold counted (n + 1) (zip a b) ≡ n + 1 + changes a b)
-        → fold counted ((n + cond (not t) 1 0) % 2 ^ 64) (zip a b) ≡ n + (cond t 0 1 + changes a b)
-    go true e f =
-        let fits : (n + 0) % 2 ^ 64 ≡ n = omega arith in
-        ap (λ (m : ℕ). fold counted m (zip a b)) fits ∙ e ∙ omega arith
-    go false e f =
-        let fits : (n + 1) % 2 ^ 64 ≡ n + 1 = omega arith in
-        ap (λ (m : ℕ). fold counted m (zip a b)) fits ∙ f (omega arith) ∙ omega arith
+changes-none_yet a b = refl
 
-pub changes_counted : (a b : List ℕ) → length a < 2 ^ 64 → fold counted 0 (zip a b) ≡ changes a b
-changes_counted a b h = onward 0 a b (omega arith) ∙ none_before (changes a b)
-  where
-    none_before : (n : ℕ) → 0 + n ≡ n
-    none_before n = omega arith
+changes-suc : (a b : List ℕ) (i : ℕ) → i < length a → i < length b
+    → changes (take (suc i) a) (take (suc i) b) ≡ changes (take i a) (take i b) + cond (eqb (get_or a i 0) (get_or b i 0)) 0 1
+unfolding changes
+changes-suc [] b i h k = absurd (omega arith)
+changes-suc (x ∷ a) [] i h k = absurd (omega arith)
+changes-suc (x ∷ a) (y ∷ b) zero h k = add-zero (cond (eqb x y) 0 1) ∙ sym (zero-add (cond (eqb x y) 0 1))
+changes-suc (x ∷ a) (y ∷ b) (suc i) h k =
+    ap (λ (n : ℕ). cond (eqb x y) 0 1 + n) (changes-suc a b i (omega arith) (omega arith))
+    ∙ sym (add_assoc (cond (eqb x y) 0 1) (changes (take i a) (take i b)) (cond (eqb (get_or a i 0) (get_or b i 0)) 0 1))
+
+-- one place more
+pub changes_more : (a b : List ℕ) (i : ℕ) {count one : ℕ} → i < length a → i < length b → count ≡ changes (take i a) (take i b)
+    → one ≡ cond (eqb (get_or a i 0) (get_or b i 0)) 0 1 → count + one ≡ changes (take (i + 1) a) (take (i + 1) b)
+changes_more a b i h k p q =
+    (λ j. p j + q j) ∙ sym (changes-suc a b i h k) ∙ ap (λ (n : ℕ). changes (take n a) (take n b)) (sym (add-one i))
+
+-- past the end of the shorter list there is no place left
+pub changes_all : (a b : List ℕ) (n : ℕ) → (length a ≤ n) ⊎ (length b ≤ n) → changes (take n a) (take n b) ≡ changes a b
+unfolding changes
+changes_all [] b zero h = refl
+changes_all (x ∷ a) b zero (inl h) = absurd (omega arith)
+changes_all (x ∷ a) [] zero (inr h) = refl
+changes_all (x ∷ a) (y ∷ b) zero (inr h) = absurd (omega arith)
+changes_all [] b (suc n) h = refl
+changes_all (x ∷ a) [] (suc n) h = refl
+changes_all (x ∷ a) (y ∷ b) (suc n) (inl h) = ap (λ (m : ℕ). cond (eqb x y) 0 1 + m) (changes_all a b n (inl (omega arith)))
+changes_all (x ∷ a) (y ∷ b) (suc n) (inr h) = ap (λ (m : ℕ). cond (eqb x y) 0 1 + m) (changes_all a b n (inr (omega arith)))
