@@ -99,6 +99,7 @@ fn write_each(n: usize, frames: &[u8], start: HeaderTime, out: &mut [u8])
 }
 
 // Carries frames over, one Sector for each, or refuses all of them.
+#[tactic(auto, using(crate::proofs::WaysOut::on_refusal))]
 pub fn carry(frames: &[u8], start: HeaderTime, out: &mut [u8]) -> Result<(), CarryError>
     ensures { Carries frames.now start out.old (say_of result) out.new }
 {
